@@ -1,0 +1,18 @@
+//! Values that every crate above names, the traits of the outside, and their implementations.
+#![tactic(auto)]
+
+mod answers;
+mod list;
+mod memory;
+mod name;
+mod outside;
+mod real;
+mod sure;
+
+pub use answers::{Code, NoMemory, Place, Refusal};
+pub use list::List;
+pub use memory::{Held, MemFiles, MemSink};
+pub use name::Name;
+pub use outside::{FetchFail, Files, PutFail, Sink};
+pub use real::{DiskFiles, StdSink};
+pub use sure::{SureFiles, SureSink};

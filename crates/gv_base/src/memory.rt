@@ -1,0 +1,143 @@
+//! Files and a sink in memory, which fail at the calls of a list.
+
+ghost use Rattle.std.specs.Prelude.{◌≡◌, ◌+◌, ◌-◌, ◌^◌, ◌<◌, ◌≤◌, [], take, IfOk, IfErr, None, Some, vec_len, vec_capacity};
+ghost use Rattle.std.specs.Option.{option_copied};
+ghost use Rattle.gv_base.specs.Outside.{bytes_under};
+
+use crate::answers::NoMemory;
+use crate::list::List;
+use crate::name::Name;
+use crate::outside::{FetchFail, Files, PutFail, Sink};
+use std::alloc::Global;
+
+/// A name, and what is held under it.
+#[derive(Debug, Drop)]
+pub struct Held {
+    pub name: Name,
+    pub bytes: Name,
+}
+
+/// What the first of these with the name holds.
+pub fn find_held<'a>(held: &'a [Held], name: &[u8]) -> Option<&'a Name>
+    ensures { option_copied result ≡ bytes_under held.now name.now }
+{
+    held.iter()
+        .find(|h| h.name.as_slice() == name)
+        .map(|h| &h.bytes)
+}
+
+/// The first `most + 1` bytes.
+pub fn front(alloc: Global, bytes: &[u8], most: u64) -> Result<Vec<u8>, FetchFail>
+    requires { most < 2 ^ 64 - 1 }
+    ensures ok { IfOk result (λ v. v.items ≡ take (most + 1) bytes.now) }
+    ensures err { IfErr result (λ e. e ≡ FetchFail.NoMemory) }
+{
+    let most = (most + 1) as usize;
+    let bytes = if bytes.len() < most {
+        bytes
+    } else {
+        &bytes[..most]
+    };
+    Vec::from_slice(alloc, bytes).map_err(|_| FetchFail::NoMemory)
+}
+
+/// Files in memory.
+#[derive(Debug, Drop)]
+pub struct MemFiles {
+    held: List<Held>,
+    fails: List<u64>,
+    calls: u64,
+    faults: u64,
+    failed: Option<Name>,
+}
+
+impl MemFiles {
+    pub fn new(alloc: Global, held: List<Held>, fails: List<u64>) -> MemFiles {
+        MemFiles {
+            held,
+            fails,
+            calls: 0,
+            faults: 0,
+            failed: None,
+        }
+    }
+}
+
+impl Files for MemFiles {
+    ghost held = { λ s n. bytes_under s.held n };
+
+    ghost failed = { λ s. s.failed };
+
+    ghost faults = { λ s. s.faults };
+
+    fn fetch(&mut self, alloc: Global, name: &str, most: u64) -> Result<Vec<u8>, FetchFail> {
+        let found = match find_held(self.held.as_slice(), name.as_bytes()) {
+            Some(bytes) => Some(front(alloc, bytes.as_slice(), most)?),
+            None => None,
+        };
+        let asked = Name::from_slice(alloc, name.as_bytes()).map_err(|_| FetchFail::NoMemory)?;
+        self.calls = self.calls.saturating_add(1);
+        match found {
+            Some(bytes) if !self.fails.as_slice().contains(&self.calls) => Ok(bytes),
+            _ => {
+                self.faults = self.faults.saturating_add(1);
+                self.failed = Some(asked);
+                Err(FetchFail::Failed)
+            }
+        }
+    }
+}
+
+/// A sink in memory, with room for so many bytes.
+#[derive(Debug, Drop)]
+pub struct MemSink {
+    bytes: Vec<u8>,
+    room: u64,
+    fails: List<u64>,
+    calls: u64,
+    faults: u64,
+    ghost within: { vec_len bytes ≤ room },
+    ghost has_room: { room ≤ vec_capacity bytes },
+}
+
+impl MemSink {
+    pub fn new(alloc: Global, room: u64, fails: List<u64>) -> Result<MemSink, NoMemory>
+        ensures empty { IfOk result (λ s. ⟦<MemSink as Sink>⟧.written s ≡ Some []) }
+    {
+        Ok(MemSink {
+            bytes: Vec::with_capacity(alloc, room as usize)?,
+            room,
+            fails,
+            calls: 0,
+            faults: 0,
+        })
+    }
+
+    pub fn written(&self) -> &Vec<u8>
+        ensures { ⟦<MemSink as Sink>⟧.written self.now ≡ Some result.now.items }
+    {
+        &self.bytes
+    }
+}
+
+impl Sink for MemSink {
+    ghost written = { λ s. Some s.bytes.items };
+
+    ghost faults = { λ s. s.faults };
+
+    fn put(&mut self, piece: &[u8]) -> Result<(), PutFail> {
+        self.calls = self.calls.saturating_add(1);
+        let left = self.room as usize - self.bytes.len();
+        if self.fails.as_slice().contains(&self.calls) {
+            self.faults = self.faults.saturating_add(1);
+            return Err(PutFail::Failed);
+        }
+        if piece.len() > left {
+            self.bytes.extend_from_slice(&piece[..left]).unwrap();
+            self.faults = self.faults.saturating_add(1);
+            return Err(PutFail::Failed);
+        }
+        self.bytes.extend_from_slice(piece).unwrap();
+        Ok(())
+    }
+}
