@@ -7,6 +7,8 @@ mod memory;
 mod name;
 mod outside;
 mod real;
+mod reason;
+mod small;
 mod sure;
 
 pub use answers::{Code, NoMemory, Place, Refusal};
@@ -15,4 +17,6 @@ pub use memory::{Held, MemFiles, MemSink};
 pub use name::Name;
 pub use outside::{FetchFail, Files, PutFail, Sink};
 pub use real::{DiskFiles, StdSink};
+pub use reason::Reason;
+pub use small::{Part, Small, SmallOp, Turn};
 pub use sure::{SureFiles, SureSink};
