@@ -1,2 +1,4 @@
 pub mod CursorLemmas
 pub mod Cuts
+pub mod FormLemmas
+pub mod Many

@@ -1,2 +1,4 @@
 pub mod Cursor
+pub mod Forms
+pub mod Reading
 pub mod Tokens

@@ -1,0 +1,246 @@
+-- The grammar of the small forms, and its reading from the front.
+use Rattle.std.proofs.Common.{◌≡◌, ℕ, zero, suc, ◌+◌, ◌<◌, ◌≤◌, Bool, true, false, cond, List, [], ◌∷◌, ◌++◌, length, Option, Some, None, refl, sym, ap, subst, ◌∙◌, arith, rules, tests, ◌⊎◌, inl, inr}
+use Rattle.std.specs.Prelude.{option_map, option_and_then, ◌==◌, ◌||◌, ◌&&◌, not}
+use Rattle.std.proofs.lemmas.Slice.Eq.{bytes_eq-Decides}
+use Rattle.std.specs.Str.{bytes_eq}
+use Rattle.gv_base.specs.declared.small.Part.{Part}
+use Rattle.gv_base.specs.declared.small.Part.TheVariants.{Param, Number}
+use Rattle.gv_base.specs.declared.small.Turn.{Turn}
+use Rattle.gv_small.specs.Tokens.{Token, named, signed, arrowed}
+use Rattle.gv_small.specs.Forms.{is_name, part_of, Many, IsNextParameter, next, AreParameters, none, some, IsTurn, plus, minus, IsSum, number, turns}
+use Rattle.gv_small.specs.Reading.{Read, is_same, behind_all, word_at, begins_with_sign, parameter, next_parameter, no_comma, more_parameters, parameters, is_turn_sign, no_turn, turn_part, turn, after_part, sum_at}
+use Rattle.gv_small.specs.Reading as reading
+use Rattle.gv_small.proofs.Many.{Shrinks, IsFound, IsRead, all_of_found, all_of_read}
+use Rattle.gv_small.proofs.Cuts.{false_true}
+
+-- ---- options
+
+pub then_some : {A B : Type 0} (f : A → Option B) (o : Option A) (y : B) → option_and_then f o ≡ Some y → (x : A) × (o ≡ Some x) × (f x ≡ Some y)
+then_some f None y e = absurd cc
+then_some f (Some x) y e = (x, refl, e)
+
+pub map_some : {A B : Type 0} (f : A → B) (o : Option A) (y : B) → option_map f o ≡ Some y → (x : A) × (o ≡ Some x) × (f x ≡ y)
+map_some f None y e = absurd cc
+map_some f (Some x) y e = (x, refl, cc)
+
+pub if_some : {A : Type 0} (b : Bool) (x y : A) → cond b (Some x) None ≡ Some y → (b ≡ true) × (x ≡ y)
+if_some true x y e = (refl, cc)
+if_some false x y e = absurd cc
+
+-- the two parts of what is read
+pub first_is : {A B : Type 0} (p q : A × B) → Some p ≡ Some q → p.0 ≡ q.0
+first_is p q e = let same : p ≡ q = cc in ap (λ z. z.0) same
+
+pub second_is : {A B : Type 0} (p q : A × B) → Some p ≡ Some q → p.1 ≡ q.1
+second_is p q e = let same : p ≡ q = cc in ap (λ z. z.1) same
+
+-- ---- tokens
+
+pub same_is : (s t : Token) → is_same s t ≡ true → s ≡ t
+same_is (named v) (named w) e = ap named ((bytes_eq-Decides v w).0 e)
+same_is (named v) arrowed e = absurd (false_true e)
+same_is (named v) (signed b) e = absurd (false_true e)
+same_is arrowed (named w) e = absurd (false_true e)
+same_is arrowed arrowed e = refl
+same_is arrowed (signed b) e = absurd (false_true e)
+same_is (signed a) (named w) e = absurd (false_true e)
+same_is (signed a) arrowed e = absurd (false_true e)
+same_is (signed a) (signed b) e = let k : a ≡ b = search (rules, tests, e) in ap signed k
+
+pub is_same_self : (t : Token) → is_same t t ≡ true
+is_same_self (named v) = (bytes_eq-Decides v v).1 refl
+is_same_self arrowed = refl
+is_same_self (signed b) = search (rules, tests)
+
+behind_step : (ws ts r : List Token) (w t : Token) → (behind_all ws ts ≡ Some r → ts ≡ ws ++ r) → (b : Bool) → is_same w t ≡ b → cond b (behind_all ws ts) None ≡ Some r → t ∷ ts ≡ (w ∷ ws) ++ r
+behind_step ws ts r w t ih true q e = ap (λ u. u ∷ ts) (sym (same_is w t q)) ∙ ap (λ (us : List Token). w ∷ us) (ih e)
+behind_step ws ts r w t ih false q e = absurd cc
+
+pub behind_found : (ws ts r : List Token) → behind_all ws ts ≡ Some r → ts ≡ ws ++ r
+behind_found [] ts r e = cc
+behind_found (w ∷ ws) [] r e = absurd cc
+behind_found (w ∷ ws) (t ∷ ts) r e = behind_step ws ts r w t (behind_found ws ts r) (is_same w t) refl e
+
+pub behind_front : (ws r : List Token) → behind_all ws (ws ++ r) ≡ Some r
+behind_front [] r = refl
+behind_front (w ∷ ws) r = rw (is_same_self w) (behind_front ws r)
+
+length_behind : (ws r : List Token) → length r ≤ length (ws ++ r)
+length_behind [] r = omega arith
+length_behind (w ∷ ws) r = let k = length_behind ws r in omega (arith, k)
+
+pub behind_shorter : (ws ts r : List Token) → behind_all ws ts ≡ Some r → length r ≤ length ts
+behind_shorter ws ts r e = subst (λ (us : List Token). length r ≤ length us) (sym (behind_found ws ts r e)) (length_behind ws r)
+
+-- the word that comes first
+pub word_found : (p : List ℕ → Bool) (ts : List Token) (w : List ℕ) (r : List Token) → word_at p ts ≡ Some (w, r) → (ts ≡ named w ∷ r) × (p w ≡ true)
+word_found p [] w r e = absurd cc
+word_found p (named v ∷ ts) w r e = go (p v) refl e
+  where
+    go : (b : Bool) → p v ≡ b → cond {A = Read (List ℕ)} b (Some (v, ts)) None ≡ Some (w, r) → (named v ∷ ts ≡ named w ∷ r) × (p w ≡ true)
+    go true q e =
+        let P : List ℕ × List Token = (v, ts) in
+        let Q : List ℕ × List Token = (w, r) in
+        let v_is : v ≡ w = first_is P Q e in
+        let rest_is : ts ≡ r = second_is P Q e in
+        (ap (λ x. named x ∷ ts) v_is ∙ ap (λ (us : List Token). named w ∷ us) rest_is, ap p (sym v_is) ∙ q)
+    go false q e = absurd cc
+word_found p (arrowed ∷ ts) w r e = absurd cc
+word_found p (signed b ∷ ts) w r e = absurd cc
+
+pub word_read : (p : List ℕ → Bool) (w : List ℕ) (r : List Token) → p w ≡ true → word_at p (named w ∷ r) ≡ Some (w, r)
+word_read p w r e = rw e refl
+
+pub sign_found : (b : ℕ) (ts : List Token) → begins_with_sign b ts ≡ true → (r : List Token) × (ts ≡ signed b ∷ r)
+sign_found b [] e = absurd (false_true e)
+sign_found b (named w ∷ ts) e = absurd (false_true e)
+sign_found b (arrowed ∷ ts) e = absurd (false_true e)
+sign_found b (signed c ∷ ts) e = let k : c ≡ b = search (rules, tests, e) in (ts, ap (λ x. signed x ∷ ts) k)
+
+-- ---- parameters
+
+module _ (kind : List Token) where
+  pub parameter_found : (ts : List Token) (n : List ℕ) (r : List Token) → parameter kind ts ≡ Some (n, r) → (ts ≡ named n ∷ (kind ++ r)) × (is_name n ≡ true)
+  parameter_found ts n r e =
+      let (x, word, rest) = then_some _ (word_at is_name ts) (n, r) e in
+      let (after, kinds, pair) = map_some _ (behind_all kind x.1) (n, r) rest in
+      let name_is : x.0 ≡ n = ap (λ z. z.0) pair in
+      let after_is : after ≡ r = ap (λ z. z.1) pair in
+      let w = word_found is_name ts x.0 x.1 word in
+      let b = behind_found kind x.1 after kinds in
+      (w.0 ∙ ap (λ v. named v ∷ x.1) name_is ∙ ap (λ (us : List Token). named n ∷ us) (b ∙ ap (λ (us : List Token). kind ++ us) after_is), ap is_name (sym name_is) ∙ w.1)
+
+  pub parameter_read : (n : List ℕ) (r : List Token) → is_name n ≡ true → parameter kind (named n ∷ (kind ++ r)) ≡ Some (n, r)
+  parameter_read n r e = rw (e, behind_front kind r) refl
+
+  pub next_found : IsFound no_comma (next_parameter kind) (IsNextParameter kind)
+  next_found ts n r e =
+      let (after, comma, rest) = then_some _ (behind_all (signed 44 ∷ []) ts) (n, r) e in
+      let c = behind_found (signed 44 ∷ []) ts after comma in
+      let p = parameter_found after n r rest in
+      subst (λ (us : List Token). IsNextParameter kind n us r) (sym (c ∙ ap (λ (us : List Token). signed 44 ∷ us) p.0)) (next p.1)
+
+  pub next_read : IsRead no_comma (next_parameter kind) (IsNextParameter kind)
+  next_read n ts r (next e) = (parameter_read n r e, refl)
+
+  pub next_shrinks : Shrinks (next_parameter kind)
+  next_shrinks ts n r e =
+      let (after, comma, rest) = then_some _ (behind_all (signed 44 ∷ []) ts) (n, r) e in
+      let c = behind_found (signed 44 ∷ []) ts after comma in
+      let p = parameter_found after n r rest in
+      let l = length_behind kind r in
+      subst (λ (us : List Token). length r < length us) (sym (c ∙ ap (λ (us : List Token). signed 44 ∷ us) p.0)) (omega (arith, l))
+
+  pub parameters_found : (ts : List Token) (ns : List (List ℕ)) (r : List Token) → parameters kind ts ≡ Some (ns, r) → AreParameters kind ns ts r
+  parameters_found ts ns r e = go (begins_with_sign 41 ts) refl e
+    where
+      go : (b : Bool) → begins_with_sign 41 ts ≡ b → cond {A = Read (List (List ℕ))} b (Some ([], ts)) (option_and_then (λ x. option_map (λ y. (x.0 ∷ y.0, y.1)) (more_parameters kind x.1)) (parameter kind ts)) ≡ Some (ns, r) → AreParameters kind ns ts r
+      go true q e =
+          let P : List (List ℕ) × List Token = ([], ts) in
+          let Q : List (List ℕ) × List Token = (ns, r) in
+          let ns_is : [] ≡ ns = first_is P Q e in
+          let r_is : ts ≡ r = second_is P Q e in
+          subst (λ (ms : List (List ℕ)). AreParameters kind ms ts r) ns_is (subst (λ (us : List Token). AreParameters kind [] ts us) r_is none)
+      go false q e =
+          let (x, one, rest) = then_some _ (parameter kind ts) (ns, r) e in
+          let (y, others, pair) = map_some _ (more_parameters kind x.1) (ns, r) rest in
+          let ns_is : x.0 ∷ y.0 ≡ ns = ap (λ z. z.0) pair in
+          let r_is : y.1 ≡ r = ap (λ z. z.1) pair in
+          let p = parameter_found ts x.0 x.1 one in
+          let m = all_of_found no_comma (next_parameter kind) (IsNextParameter kind) next_found x.1 y.0 y.1 others in
+          let all : AreParameters kind (x.0 ∷ y.0) (named x.0 ∷ (kind ++ x.1)) y.1 = some p.1 m.0 in
+          let all' : AreParameters kind (x.0 ∷ y.0) ts y.1 = subst (λ (us : List Token). AreParameters kind (x.0 ∷ y.0) us y.1) (sym p.0) all in
+          subst (λ (ms : List (List ℕ)). AreParameters kind ms ts r) ns_is (subst (λ (us : List Token). AreParameters kind (x.0 ∷ y.0) ts us) r_is all')
+
+  closing_no_comma : (r : List Token) → begins_with_sign 41 r ≡ true → no_comma r ≡ true
+  closing_no_comma r e = let f = sign_found 41 r e in rw f.1 refl
+
+  pub parameters_read : (ns : List (List ℕ)) (ts r : List Token) → AreParameters kind ns ts r → begins_with_sign 41 r ≡ true → parameters kind ts ≡ Some (ns, r)
+  parameters_read ns ts r none e = rw e refl
+  parameters_read (n ∷ ns) ts r (some {ts = us} q m) e =
+      rw (parameter_read n us q, all_of_read no_comma (next_parameter kind) (IsNextParameter kind) next_shrinks next_read ns us r m (closing_no_comma r e)) refl
+
+-- ---- Sums
+
+module _ (params : List (List ℕ)) where
+  turn_part_found : (m : Bool) (ts : List Token) (t : Turn) (r : List Token) → turn_part params m ts ≡ Some (t, r) →
+      (w : List ℕ) × (part : Part) × (ts ≡ named w ∷ r) × (part_of params w ≡ Some part) × (t ≡ record { minus = m; part = part })
+  turn_part_found m ts t r e =
+      let (x, word, rest) = then_some _ (word_at (λ w. true) ts) (t, r) e in
+      let (part, part_is, pair) = map_some _ (part_of params x.0) (t, r) rest in
+      let turn_is : record { minus = m; part = part } ≡ t = ap (λ z. z.0) pair in
+      let r_is : x.1 ≡ r = ap (λ z. z.1) pair in
+      let w = word_found (λ w. true) ts x.0 x.1 word in
+      (x.0, part, w.0 ∙ ap (λ (us : List Token). named x.0 ∷ us) r_is, part_is, sym turn_is)
+
+  sign_of : (b : ℕ) → is_turn_sign b ≡ true → ((b == 45) ≡ false) × (b ≡ 43) ⊎ ((b == 45) ≡ true) × (b ≡ 45)
+  sign_of b e = go (b == 45) refl (b == 43) refl
+    where
+      go : (t : Bool) → (b == 45) ≡ t → (u : Bool) → (b == 43) ≡ u → ((b == 45) ≡ false) × (b ≡ 43) ⊎ ((b == 45) ≡ true) × (b ≡ 45)
+      go true f u g = let k : b ≡ 45 = search (rules, tests, f) in inr (f, k)
+      go false f true g = let k : b ≡ 43 = search (rules, tests, g) in inl (f, k)
+      go false f false g = let k : false ≡ true = rw (f, g) at e in absurd (false_true k)
+
+  pub turn_found : IsFound no_turn (turn params) (IsTurn params)
+  turn_found [] t r e = absurd cc
+  turn_found (named w ∷ ts) t r e = absurd cc
+  turn_found (arrowed ∷ ts) t r e = absurd cc
+  turn_found (signed b ∷ ts) t r e = go (is_turn_sign b) refl e
+    where
+      at_sign : (m : Bool) → turn_part params m ts ≡ Some (t, r) → ((w : List ℕ) (part : Part) → part_of params w ≡ Some part → IsTurn params (record { minus = m; part = part }) (signed b ∷ named w ∷ r) r) → IsTurn params t (signed b ∷ ts) r
+      at_sign m e made =
+          let (w, part, ts_is, part_is, t_is) = turn_part_found m ts t r e in
+          let k = made w part part_is in
+          let k' = subst (λ x. IsTurn params x (signed b ∷ named w ∷ r) r) (sym t_is) k in
+          subst (λ (us : List Token). IsTurn params t (signed b ∷ us) r) (sym ts_is) k'
+
+      by_sign : ((b == 45) ≡ false) × (b ≡ 43) ⊎ ((b == 45) ≡ true) × (b ≡ 45) → turn_part params (b == 45) ts ≡ Some (t, r) → IsTurn params t (signed b ∷ ts) r
+      by_sign (inl x) e = at_sign false (rw x.0 at e) (λ w part p. subst (λ k. IsTurn params (record { minus = false; part = part }) (signed k ∷ named w ∷ r) r) (sym x.1) (plus p))
+      by_sign (inr x) e = at_sign true (rw x.0 at e) (λ w part p. subst (λ k. IsTurn params (record { minus = true; part = part }) (signed k ∷ named w ∷ r) r) (sym x.1) (minus p))
+
+      go : (c : Bool) → is_turn_sign b ≡ c → cond c (turn_part params (b == 45) ts) None ≡ Some (t, r) → IsTurn params t (signed b ∷ ts) r
+      go true q e = by_sign (sign_of b q) e
+      go false q e = absurd cc
+
+  pub turn_read : IsRead no_turn (turn params) (IsTurn params)
+  turn_read t ts r (plus {w = w} p) = (rw p refl, refl)
+  turn_read t ts r (minus {w = w} p) = (rw p refl, refl)
+
+  turn_length : (t : Turn) (ts r : List Token) → IsTurn params t ts r → length r < length ts
+  turn_length t ts r (plus p) = omega arith
+  turn_length t ts r (minus p) = omega arith
+
+  pub turn_shrinks : Shrinks (turn params)
+  turn_shrinks ts t r e = turn_length t ts r (turn_found ts t r e)
+
+  pub sum_found : (ts : List Token) (first : Part) (rest : List Turn) (r : List Token) → sum_at params ts ≡ Some ((first, rest), r) → IsSum params first rest ts r
+  sum_found ts first rest r e =
+      let (x, word, e1) = then_some _ (word_at (λ w. true) ts) ((first, rest), r) e in
+      let (part, part_is, e2) = then_some _ (part_of params x.0) ((first, rest), r) e1 in
+      let w = word_found (λ w. true) ts x.0 x.1 word in
+      subst (λ (us : List Token). IsSum params first rest us r) (sym w.0) (by_part x.0 x.1 part part_is e2)
+    where
+      by_part : (w : List ℕ) (us : List Token) (part : Part) → part_of params w ≡ Some part → after_part params part us ≡ Some ((first, rest), r) → IsSum params first rest (named w ∷ us) r
+      by_part w us (Number v) p e =
+          let P : (Part × List Turn) × List Token = ((Number v, []), us) in
+          let Q : (Part × List Turn) × List Token = ((first, rest), r) in
+          let sum_is : P.0 ≡ Q.0 = first_is P Q e in
+          let r_is : us ≡ r = second_is P Q e in
+          let made : IsSum params (Number v) [] (named w ∷ us) us = number p in
+          let at_r = subst (λ (vs : List Token). IsSum params (Number v) [] (named w ∷ us) vs) r_is made in
+          let at_first = subst (λ x. IsSum params x [] (named w ∷ us) r) (ap (λ z. z.0) sum_is) at_r in
+          subst (λ (xs : List Turn). IsSum params first xs (named w ∷ us) r) (ap (λ z. z.1) sum_is) at_first
+      by_part w us (Param i) p e =
+          let (y, all, pair) = map_some _ (reading.turns params us) ((first, rest), r) e in
+          let m = all_of_found no_turn (turn params) (IsTurn params) turn_found us y.0 y.1 all in
+          let r_is : y.1 ≡ r = ap (λ z. z.1) pair in
+          let first_is : Param i ≡ first = ap (λ z. z.0.0) pair in
+          let rest_is : y.0 ≡ rest = ap (λ z. z.0.1) pair in
+          let made : IsSum params (Param i) y.0 (named w ∷ us) y.1 = turns p m.0 in
+          let at_r = subst (λ (vs : List Token). IsSum params (Param i) y.0 (named w ∷ us) vs) r_is made in
+          let at_first = subst (λ x. IsSum params x y.0 (named w ∷ us) r) first_is at_r in
+          subst (λ (xs : List Turn). IsSum params first xs (named w ∷ us) r) rest_is at_first
+
+  pub sum_read : (first : Part) (rest : List Turn) (ts r : List Token) → IsSum params first rest ts r → no_turn r ≡ true → sum_at params ts ≡ Some ((first, rest), r)
+  sum_read first rest ts r (number {w = w} p) e = rw p refl
+  sum_read first rest ts r (turns {w = w} {ts = us} p m) e = rw (p, all_of_read no_turn (turn params) (IsTurn params) turn_shrinks turn_read rest us r m e) refl

@@ -1,0 +1,106 @@
+-- The same grammar read from the front, step by step: what the readers of this crate compute.
+use Rattle.std.specs.Prelude.{◌≡◌, ℕ, zero, suc, Bool, true, false, ◌&&◌, ◌||◌, ◌==◌, if◌then◌else◌, List, [], ◌∷◌, ◌++◌, length, map, not, Option, Some, None, option_map, option_and_then, Result, Ok, Err}
+use Rattle.std.specs.Str.{bytes_eq}
+use Rattle.gv_base.specs.declared.answers.Refusal.{Refusal}
+use Rattle.gv_base.specs.declared.answers.Refusal.TheVariants as refusal
+use Rattle.gv_base.specs.declared.answers.Code.TheVariants.{NotInProfile}
+use Rattle.gv_base.specs.declared.small.Part.{Part}
+use Rattle.gv_base.specs.declared.small.Part.TheVariants.{Param, Number}
+use Rattle.gv_base.specs.declared.small.Turn.{Turn}
+use Rattle.gv_small.specs.Tokens.{Token, named, signed, arrowed, start}
+use Rattle.gv_small.specs.Forms.{is_name, part_of}
+
+-- what a reader of A gives: an A and the tokens behind it
+abbrev pub Read : Type 0 → Type 0
+Read A = Option (A × List Token)
+
+-- a text is refused at its first place where the reading finds nothing
+abbrev pub Refuses : {X : Type 0} → Option X → Refusal → Type 0
+Refuses found refusal.NoMemory = Unit {0}
+Refuses found (refusal.At place code) = (found ≡ None) × (place ≡ start) × (code ≡ NotInProfile)
+
+abbrev pub is_same : Token → Token → Bool
+is_same (named v) (named w) = bytes_eq v w
+is_same (named v) arrowed = false
+is_same (named v) (signed b) = false
+is_same arrowed (named w) = false
+is_same arrowed arrowed = true
+is_same arrowed (signed b) = false
+is_same (signed a) (named w) = false
+is_same (signed a) arrowed = false
+is_same (signed a) (signed b) = a == b
+
+-- the tokens behind these, where the list begins with them
+abbrev pub behind_all : List Token → List Token → Option (List Token)
+behind_all [] ts = Some ts
+behind_all (w ∷ ws) [] = None
+behind_all (w ∷ ws) (t ∷ ts) = if is_same w t then behind_all ws ts else None
+
+-- the word that comes first, where it passes
+abbrev pub word_at : (List ℕ → Bool) → List Token → Read (List ℕ)
+word_at p [] = None
+word_at p (named w ∷ ts) = if p w then Some (w, ts) else None
+word_at p (arrowed ∷ ts) = None
+word_at p (signed b ∷ ts) = None
+
+abbrev pub begins_with_sign : ℕ → List Token → Bool
+begins_with_sign b [] = false
+begins_with_sign b (named w ∷ ts) = false
+begins_with_sign b (arrowed ∷ ts) = false
+begins_with_sign b (signed c ∷ ts) = c == b
+
+-- one after the other until it stops, at most so many
+abbrev pub many : {A : Type 0} → (List Token → Bool) → (List Token → Read A) → ℕ → List Token → Read (List A)
+many stop step zero ts = if stop ts then Some ([], ts) else None
+many stop step (suc n) ts = if stop ts then Some ([], ts) else option_and_then (λ x. option_map (λ y. (x.0 ∷ y.0, y.1)) (many stop step n x.1)) (step ts)
+
+abbrev pub all_of : {A : Type 0} → (List Token → Bool) → (List Token → Read A) → List Token → Read (List A)
+all_of stop step ts = many stop step (length ts) ts
+
+-- ---- parameters
+
+-- a name and the words of its type
+abbrev pub parameter : List Token → List Token → Read (List ℕ)
+parameter kind ts = option_and_then (λ x. option_map (λ after. (x.0, after)) (behind_all kind x.1)) (word_at is_name ts)
+
+abbrev pub next_parameter : List Token → List Token → Read (List ℕ)
+next_parameter kind ts = option_and_then (λ after. parameter kind after) (behind_all (signed 44 ∷ []) ts)
+
+abbrev pub no_comma : List Token → Bool
+no_comma ts = not (begins_with_sign 44 ts)
+
+abbrev pub more_parameters : List Token → List Token → Read (List (List ℕ))
+more_parameters kind ts = all_of no_comma (next_parameter kind) ts
+
+-- none before a closing parenthesis
+abbrev pub parameters : List Token → List Token → Read (List (List ℕ))
+parameters kind ts = if begins_with_sign 41 ts then Some ([], ts)
+    else option_and_then (λ x. option_map (λ y. (x.0 ∷ y.0, y.1)) (more_parameters kind x.1)) (parameter kind ts)
+
+-- ---- Sums
+
+abbrev pub is_turn_sign : ℕ → Bool
+is_turn_sign b = b == 43 || b == 45
+
+abbrev pub no_turn : List Token → Bool
+no_turn ts = not (begins_with_sign 43 ts || begins_with_sign 45 ts)
+
+abbrev pub turn_part : List (List ℕ) → Bool → List Token → Read Turn
+turn_part params minus ts = option_and_then (λ x. option_map (λ part. (record { minus = minus; part = part }, x.1)) (part_of params x.0)) (word_at (λ w. true) ts)
+
+abbrev pub turn : List (List ℕ) → List Token → Read Turn
+turn params [] = None
+turn params (named w ∷ ts) = None
+turn params (arrowed ∷ ts) = None
+turn params (signed b ∷ ts) = if is_turn_sign b then turn_part params (b == 45) ts else None
+
+abbrev pub turns : List (List ℕ) → List Token → Read (List Turn)
+turns params ts = all_of no_turn (turn params) ts
+
+-- a number alone, or a parameter and its turns
+abbrev pub after_part : List (List ℕ) → Part → List Token → Read (Part × List Turn)
+after_part params (Number v) ts = Some ((Number v, []), ts)
+after_part params (Param i) ts = option_map (λ y. ((Param i, y.0), y.1)) (turns params ts)
+
+abbrev pub sum_at : List (List ℕ) → List Token → Read (Part × List Turn)
+sum_at params ts = option_and_then (λ x. option_and_then (λ part. after_part params part x.1) (part_of params x.0)) (word_at (λ w. true) ts)
