@@ -2,3 +2,4 @@ pub mod CursorLemmas
 pub mod Cuts
 pub mod FormLemmas
 pub mod Many
+pub mod WordLemmas

@@ -1,6 +1,6 @@
 -- What a cursor has before it.
 use Rattle.std.specs.Prelude.{◌≡◌, ℕ, List, [], length}
-use Rattle.gv_small.specs.Tokens.{Token, named, arrowed, signed, Placed, laid, cut, BeginsWord, BeginsArrow, BeginsSign}
+use Rattle.gv_small.specs.Tokens.{Token, named, arrowed, signed, Placed, laid, kinds, cut, BeginsWord, BeginsArrow, BeginsSign}
 use Rattle.gv_small.specs.declared.cursor.Cursor.{Cursor}
 use Rattle.gv_small.specs.declared.cursor.Beginning.{Beginning}
 use Rattle.gv_small.specs.declared.cursor.Beginning.TheVariants as beginning
@@ -34,6 +34,10 @@ Begins beginning.Word text = BeginsWord text
 Begins beginning.Arrow text = BeginsArrow text
 Begins beginning.Sign text = BeginsSign text
 Begins beginning.End text = text ≡ []
+
+-- the same without their places
+abbrev pub kinds_left : Cursor → List Token
+kinds_left c = kinds (tokens_left c)
 
 -- the bytes that are still to be read
 abbrev pub bytes_left : Cursor → ℕ

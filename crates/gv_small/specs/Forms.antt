@@ -26,9 +26,12 @@ abbrev pub begins_with_capital : List ℕ → Bool
 begins_with_capital [] = false
 begins_with_capital (b ∷ bs) = nat_le 65 b && nat_le b 90
 
+abbrev pub is_reserved : List ℕ → Bool
+is_reserved w = is_among reserved_words w
+
 -- of a word: that it begins with no digit and is not reserved
 abbrev pub is_name : List ℕ → Bool
-is_name w = not (begins_with_digit w) && not (is_among reserved_words w)
+is_name w = not (begins_with_digit w) && not (is_reserved w)
 
 abbrev pub is_operation_name : List ℕ → Bool
 is_operation_name w = is_name w && begins_with_capital w && not (bytes_eq w (codes "Recover"))
@@ -50,7 +53,7 @@ number_of w = if is_numeral w && nat_lt (digits_value 10 w) (2 ^ 64) then Some (
 
 -- the place of a parameter's name, counted from 0
 abbrev pub place_among : List (List ℕ) → List ℕ → Option ℕ
-place_among params w = position (λ n. bytes_eq n w) params
+place_among params w = position (bytes_eq w) params
 
 -- what a word in a Sum stands for
 abbrev pub part_of : List (List ℕ) → List ℕ → Option Part

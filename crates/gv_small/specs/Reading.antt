@@ -7,7 +7,7 @@ use Rattle.gv_base.specs.declared.answers.Code.TheVariants.{NotInProfile}
 use Rattle.gv_base.specs.declared.small.Part.{Part}
 use Rattle.gv_base.specs.declared.small.Part.TheVariants.{Param, Number}
 use Rattle.gv_base.specs.declared.small.Turn.{Turn}
-use Rattle.gv_small.specs.Tokens.{Token, named, signed, arrowed, start}
+use Rattle.gv_small.specs.Tokens.{Token, named, signed, arrowed, Placed, start}
 use Rattle.gv_small.specs.Forms.{is_name, part_of}
 
 -- what a reader of A gives: an A and the tokens behind it
@@ -18,6 +18,9 @@ Read A = Option (A × List Token)
 abbrev pub Refuses : {X : Type 0} → Option X → Refusal → Type 0
 Refuses found refusal.NoMemory = Unit {0}
 Refuses found (refusal.At place code) = (found ≡ None) × (place ≡ start) × (code ≡ NotInProfile)
+
+abbrev pub start_refusal : Refusal
+start_refusal = refusal.At start NotInProfile
 
 abbrev pub is_same : Token → Token → Bool
 is_same (named v) (named w) = bytes_eq v w
@@ -36,12 +39,28 @@ behind_all [] ts = Some ts
 behind_all (w ∷ ws) [] = None
 behind_all (w ∷ ws) (t ∷ ts) = if is_same w t then behind_all ws ts else None
 
+-- the same with places
+abbrev pub behind_placed : List Token → List Placed → Option (List Placed)
+behind_placed [] ts = Some ts
+behind_placed (w ∷ ws) [] = None
+behind_placed (w ∷ ws) (t ∷ ts) = if is_same w t.token then behind_placed ws ts else None
+
 -- the word that comes first, where it passes
 abbrev pub word_at : (List ℕ → Bool) → List Token → Read (List ℕ)
 word_at p [] = None
 word_at p (named w ∷ ts) = if p w then Some (w, ts) else None
 word_at p (arrowed ∷ ts) = None
 word_at p (signed b ∷ ts) = None
+
+abbrev pub word_behind : (List ℕ → Bool) → Token → List Placed → Option (List ℕ × List Placed)
+word_behind p (named w) ts = if p w then Some (w, ts) else None
+word_behind p arrowed ts = None
+word_behind p (signed b) ts = None
+
+-- the same with places
+abbrev pub word_placed : (List ℕ → Bool) → List Placed → Option (List ℕ × List Placed)
+word_placed p [] = None
+word_placed p (t ∷ ts) = word_behind p t.token ts
 
 abbrev pub begins_with_sign : ℕ → List Token → Bool
 begins_with_sign b [] = false

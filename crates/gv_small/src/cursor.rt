@@ -39,6 +39,7 @@ const OPEN_KEYWORDS: [&[u8]; 22] = [
 
 /// The tokens of a text that are still to be read, with their places. It takes no memory.
 /// This project's own.
+#[derive(Clone, Copy)]
 pub struct Cursor<'a> {
     rest: &'a [u8],
     go: bool,

@@ -2,7 +2,10 @@
 #![tactic(auto)]
 
 mod cursor;
+mod names;
+mod reading;
 mod token;
 
 pub use cursor::Cursor;
+pub use reading::{begins_with_sign, expect, is_at_end, name, not_of_form, operation_name, word};
 pub use token::{SmallToken, Taken};

@@ -1,5 +1,9 @@
 //! Tokens of the small form.
 
+ghost use Rattle.std.specs.Prelude.{◌≡◌};
+ghost use Rattle.gv_small.specs.Cursor.{token_of};
+ghost use Rattle.gv_small.specs.Reading.{is_same};
+
 use gv_base::Place;
 
 /// A token: a run of letters, digits and `_`; `->`; or another byte that is no blank.
@@ -17,4 +21,16 @@ pub enum SmallToken<'a> {
 pub struct Taken<'a> {
     pub token: SmallToken<'a>,
     pub place: Place,
+}
+
+/// Whether two tokens are the same, wherever they stand.
+pub fn is_same(one: &SmallToken, other: &SmallToken) -> bool
+    ensures { result ≡ is_same (token_of one.now) (token_of other.now) }
+{
+    match (one, other) {
+        (SmallToken::Word(a), SmallToken::Word(b)) => a == b,
+        (SmallToken::Arrow, SmallToken::Arrow) => true,
+        (SmallToken::Sign(a), SmallToken::Sign(b)) => a == b,
+        _ => false,
+    }
 }

@@ -1,0 +1,95 @@
+//! Words that are names, and names that differ.
+
+ghost use Rattle.std.specs.Prelude.{◌≡◌, true, false, IfOk, IfSome, IfNone, OnOk};
+ghost use Rattle.gv_small.specs.Forms as form;
+
+use crate::cursor::is_among;
+use gv_base::{Name, NoMemory};
+use indexmap::IndexSet;
+use std::alloc::Global;
+
+/// The words that Go and its profile keep for themselves.
+const RESERVED_WORDS: [&[u8]; 35] = [
+    b"break",
+    b"case",
+    b"chan",
+    b"const",
+    b"continue",
+    b"default",
+    b"defer",
+    b"else",
+    b"fallthrough",
+    b"for",
+    b"func",
+    b"go",
+    b"goto",
+    b"if",
+    b"import",
+    b"interface",
+    b"map",
+    b"package",
+    b"range",
+    b"return",
+    b"select",
+    b"struct",
+    b"switch",
+    b"type",
+    b"var",
+    b"uint64",
+    b"byte",
+    b"bool",
+    b"true",
+    b"false",
+    b"nil",
+    b"make",
+    b"new",
+    b"len",
+    b"delete",
+];
+
+/// Whether a byte is a decimal digit.
+pub fn is_digit(byte: u8) -> bool
+    ensures { result ≡ form.is_digit byte }
+{
+    byte.is_ascii_digit()
+}
+
+/// Whether a word begins with a digit.
+pub fn begins_with_digit(word: &[u8]) -> bool
+    ensures { result ≡ form.begins_with_digit word.now }
+{
+    match word {
+        [first, ..] => is_digit(*first),
+        [] => false,
+    }
+}
+
+fn begins_with_capital(word: &[u8]) -> bool
+    ensures { result ≡ form.begins_with_capital word.now }
+{
+    match word {
+        [first, ..] => first.is_ascii_uppercase(),
+        [] => false,
+    }
+}
+
+fn is_reserved(word: &[u8]) -> bool
+    ensures { result ≡ form.is_reserved word.now }
+{
+    is_among(&RESERVED_WORDS, word)
+}
+
+/// Whether a word may be a name: it begins with no digit and is not reserved.
+pub fn is_name(word: &[u8]) -> bool
+    ensures { result ≡ form.is_name word.now }
+{
+    !begins_with_digit(word) && !is_reserved(word)
+}
+
+/// Whether a word may name an operation: a name that begins with a capital letter and is not
+/// `Recover`.
+pub fn is_operation_name(word: &[u8]) -> bool
+    ensures { result ≡ form.is_operation_name word.now }
+{
+    is_name(word) && begins_with_capital(word) && word != b"Recover".as_slice()
+}
