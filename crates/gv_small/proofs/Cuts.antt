@@ -230,3 +230,8 @@ blank_word b e = go (b == 32) (b == 9) (b == 10) refl refl refl
     go false true v x y z = let same : b ≡ 9 = search (rules, tests, y) in rw same refl
     go false false true x y z = let same : b ≡ 10 = search (rules, tests, z) in rw same refl
     go false false false x y z = let e2 : false ≡ true = rw (x, y, z) at e in absurd (false_true e2)
+
+-- the comma, as code writes it
+pub cut_comma : cut (44 ∷ []) ≡ sign 44 ∷ []
+unfolding cut
+cut_comma = refl

@@ -1,13 +1,22 @@
 -- Reading one after the other, against the relation that says the same.
-use Rattle.std.proofs.Common.{◌≡◌, ℕ, zero, suc, ◌+◌, ◌<◌, ◌≤◌, Bool, true, false, cond, List, [], ◌∷◌, ◌++◌, length, Option, Some, None, refl, sym, ap, subst, ◌∙◌, arith}
-use Rattle.std.specs.Prelude.{option_map, option_and_then}
+use Rattle.std.proofs.Common.{◌≡◌, ℕ, zero, suc, ◌+◌, ◌<◌, ◌≤◌, Bool, true, false, cond, List, [], ◌∷◌, ◌++◌, length, Option, Some, None, refl, sym, ap, subst, ◌∙◌, arith, append_assoc}
+use Rattle.std.proofs.lemmas.List.{append-nil}
+use Rattle.std.specs.Prelude.{option_map, option_and_then, not}
 use Rattle.gv_small.specs.Tokens.{Token}
 use Rattle.gv_small.specs.Forms.{Many, none, more}
-use Rattle.gv_small.specs.Reading.{Read, many, all_of}
+use Rattle.gv_small.specs.Reading.{Read, many, all_of, joined}
 
 -- each step takes a token at least
 abbrev pub Shrinks : {A : Type 0} → (List Token → Read A) → Type 0
 Shrinks {A} step = (ts : List Token) (a : A) (r : List Token) → step ts ≡ Some (a, r) → length r < length ts
+
+pub not_true : (b : Bool) → not b ≡ true → b ≡ false
+not_true true e = absurd cc
+not_true false e = refl
+
+pub not_not : (b : Bool) → not (not b) ≡ b
+not_not true = refl
+not_not false = refl
 
 module _ {A : Type 0} (stop : List Token → Bool) (step : List Token → Read A) where
   -- nothing is read of nothing
@@ -52,6 +61,31 @@ module _ {A : Type 0} (stop : List Token → Bool) (step : List Token → Read A
   pub all_of_step : Shrinks step → (ts : List Token) (o : Read A) → stop ts ≡ false → step ts ≡ o →
       all_of stop step ts ≡ option_and_then (λ x. option_map (λ y. (x.0 ∷ y.0, y.1)) (all_of stop step x.1)) o
   all_of_step h ts o e f = by_length (length ts) ts refl h o e f
+
+  -- ---- a loop that has read some and goes on
+
+  pub joined_stop : (done : List A) (ts : List Token) → stop ts ≡ true → joined done (all_of stop step ts) ≡ Some (done, ts)
+  joined_stop done ts e = rw (all_of_stop ts e, append-nil done) refl
+
+  regroup : (done : List A) (a : A) (o : Read (List A)) → joined done (option_map (λ y. (a ∷ y.0, y.1)) o) ≡ joined (done ++ a ∷ []) o
+  regroup done a None = refl
+  regroup done a (Some y) = let e : (done ++ a ∷ []) ++ y.0 ≡ done ++ a ∷ y.0 = append_assoc done (a ∷ []) y.0 in rw e refl
+
+  pub joined_step : Shrinks step → (done : List A) (ts : List Token) (a : A) (r : List Token) → stop ts ≡ false → step ts ≡ Some (a, r) →
+      joined done (all_of stop step ts) ≡ joined (done ++ a ∷ []) (all_of stop step r)
+  joined_step h done ts a r e f = ap (joined done) (all_of_step h ts (Some (a, r)) e f) ∙ regroup done a (all_of stop step r)
+
+  -- one turn of such a loop
+  pub joined_turn : Shrinks step → (done grown : List A) (ts r : List Token) (a : A) → not (stop ts) ≡ true → step ts ≡ Some (a, r) → grown ≡ done ++ a ∷ [] →
+      joined grown (all_of stop step r) ≡ joined done (all_of stop step ts)
+  joined_turn h done grown ts r a e f g = ap (λ (xs : List A). joined xs (all_of stop step r)) g ∙ sym (joined_step h done ts a r (not_true (stop ts) e) f)
+
+  pub all_of_none : Shrinks step → (ts : List Token) → stop ts ≡ false → step ts ≡ None → all_of stop step ts ≡ None
+  all_of_none h ts e f = all_of_step h ts None e f
+
+  pub joined_none : (done : List A) (o : Read (List A)) → joined done o ≡ None → o ≡ None
+  joined_none done None e = refl
+  joined_none done (Some y) e = absurd cc
 
   module _ (P : A → List Token → List Token → Type 0) where
     -- what is read is so

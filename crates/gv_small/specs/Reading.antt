@@ -76,6 +76,10 @@ many stop step (suc n) ts = if stop ts then Some ([], ts) else option_and_then (
 abbrev pub all_of : {A : Type 0} → (List Token → Bool) → (List Token → Read A) → List Token → Read (List A)
 all_of stop step ts = many stop step (length ts) ts
 
+-- what was read before, and what is read now
+abbrev pub joined : {A : Type 0} → List A → Read (List A) → Read (List A)
+joined done o = option_map (λ y. (done ++ y.0, y.1)) o
+
 -- ---- parameters
 
 -- a name and the words of its type

@@ -3,9 +3,11 @@
 
 mod cursor;
 mod names;
+mod parameter_list;
 mod reading;
 mod token;
 
 pub use cursor::Cursor;
+pub use parameter_list::parameters;
 pub use reading::{begins_with_sign, expect, is_at_end, name, not_of_form, operation_name, word};
 pub use token::{SmallToken, Taken};
