@@ -8,7 +8,7 @@ use Rattle.gv_base.specs.declared.small.Part.TheVariants.{Param, Number}
 use Rattle.gv_base.specs.declared.small.Turn.{Turn}
 use Rattle.gv_small.specs.Tokens.{Token, named, signed, arrowed}
 use Rattle.gv_small.specs.Forms.{is_name, part_of, Many, IsNextParameter, next, AreParameters, none, some, IsTurn, plus, minus, IsSum, number, turns}
-use Rattle.gv_small.specs.Reading.{Read, is_same, behind_all, word_at, begins_with_sign, parameter, next_parameter, no_comma, more_parameters, parameters, is_turn_sign, no_turn, turn_part, turn, after_part, sum_at}
+use Rattle.gv_small.specs.Reading.{Read, is_same, behind_all, word_at, begins_with_sign, parameter, next_parameter, no_comma, more_parameters, parameters, no_turn, turn_sign, part_at, turn, after_part, sum_at}
 use Rattle.gv_small.specs.Reading as reading
 use Rattle.gv_small.proofs.Many.{Shrinks, IsFound, IsRead, all_of_found, all_of_read}
 use Rattle.gv_small.proofs.Cuts.{false_true}
@@ -162,45 +162,53 @@ module _ (kind : List Token) where
 
 -- ---- Sums
 
+-- the sign of a turn
+abbrev IsSign : Bool → List Token → List Token → Type 0
+IsSign false ts r = ts ≡ signed 43 ∷ r
+IsSign true ts r = ts ≡ signed 45 ∷ r
+
+sign_is : (ts : List Token) (m : Bool) (r : List Token) → turn_sign ts ≡ Some (m, r) → IsSign m ts r
+sign_is [] m r e = absurd cc
+sign_is (named w ∷ ts) m r e = absurd cc
+sign_is (arrowed ∷ ts) m r e = absurd cc
+sign_is (signed b ∷ ts) m r e = go (b == 43) refl (b == 45) refl e
+  where
+    made : (n : Bool) → IsSign n (signed b ∷ ts) ts → cond {A = Read Bool} true (Some (n, ts)) None ≡ Some (m, r) → IsSign m (signed b ∷ ts) r
+    made n s e =
+        let P : Bool × List Token = (n, ts) in
+        let Q : Bool × List Token = (m, r) in
+        let n_is : n ≡ m = first_is P Q e in
+        let r_is : ts ≡ r = second_is P Q e in
+        subst (λ x. IsSign x (signed b ∷ ts) r) n_is (subst (λ (us : List Token). IsSign n (signed b ∷ ts) us) r_is s)
+
+    go : (t : Bool) → (b == 43) ≡ t → (u : Bool) → (b == 45) ≡ u → cond {A = Read Bool} t (Some (false, ts)) (cond u (Some (true, ts)) None) ≡ Some (m, r) → IsSign m (signed b ∷ ts) r
+    go true f u g e = let k : b ≡ 43 = search (rules, tests, f) in made false (ap (λ x. signed x ∷ ts) k) e
+    go false f true g e = let k : b ≡ 45 = search (rules, tests, g) in made true (ap (λ x. signed x ∷ ts) k) e
+    go false f false g e = absurd cc
+
 module _ (params : List (List ℕ)) where
-  turn_part_found : (m : Bool) (ts : List Token) (t : Turn) (r : List Token) → turn_part params m ts ≡ Some (t, r) →
-      (w : List ℕ) × (part : Part) × (ts ≡ named w ∷ r) × (part_of params w ≡ Some part) × (t ≡ record { minus = m; part = part })
-  turn_part_found m ts t r e =
-      let (x, word, rest) = then_some _ (word_at (λ w. true) ts) (t, r) e in
-      let (part, part_is, pair) = map_some _ (part_of params x.0) (t, r) rest in
-      let turn_is : record { minus = m; part = part } ≡ t = ap (λ z. z.0) pair in
+  pub part_found : (ts : List Token) (part : Part) (r : List Token) → part_at params ts ≡ Some (part, r) → (w : List ℕ) × (ts ≡ named w ∷ r) × (part_of params w ≡ Some part)
+  part_found ts part r e =
+      let (x, word, rest) = then_some _ (word_at (λ w. true) ts) (part, r) e in
+      let (q, q_is, pair) = map_some _ (part_of params x.0) (part, r) rest in
+      let part_is : q ≡ part = ap (λ z. z.0) pair in
       let r_is : x.1 ≡ r = ap (λ z. z.1) pair in
       let w = word_found (λ w. true) ts x.0 x.1 word in
-      (x.0, part, w.0 ∙ ap (λ (us : List Token). named x.0 ∷ us) r_is, part_is, sym turn_is)
+      (x.0, w.0 ∙ ap (λ (us : List Token). named x.0 ∷ us) r_is, q_is ∙ ap Some part_is)
 
-  sign_of : (b : ℕ) → is_turn_sign b ≡ true → ((b == 45) ≡ false) × (b ≡ 43) ⊎ ((b == 45) ≡ true) × (b ≡ 45)
-  sign_of b e = go (b == 45) refl (b == 43) refl
-    where
-      go : (t : Bool) → (b == 45) ≡ t → (u : Bool) → (b == 43) ≡ u → ((b == 45) ≡ false) × (b ≡ 43) ⊎ ((b == 45) ≡ true) × (b ≡ 45)
-      go true f u g = let k : b ≡ 45 = search (rules, tests, f) in inr (f, k)
-      go false f true g = let k : b ≡ 43 = search (rules, tests, g) in inl (f, k)
-      go false f false g = let k : false ≡ true = rw (f, g) at e in absurd (false_true k)
+  with_sign : (m : Bool) (ts us r : List Token) (w : List ℕ) (part : Part) → IsSign m ts us → us ≡ named w ∷ r → part_of params w ≡ Some part → IsTurn params (record { minus = m; part = part }) ts r
+  with_sign false ts us r w part s e p = subst (λ (vs : List Token). IsTurn params (record { minus = false; part = part }) vs r) (sym (s ∙ ap (λ (vs : List Token). signed 43 ∷ vs) e)) (plus p)
+  with_sign true ts us r w part s e p = subst (λ (vs : List Token). IsTurn params (record { minus = true; part = part }) vs r) (sym (s ∙ ap (λ (vs : List Token). signed 45 ∷ vs) e)) (minus p)
 
   pub turn_found : IsFound no_turn (turn params) (IsTurn params)
-  turn_found [] t r e = absurd cc
-  turn_found (named w ∷ ts) t r e = absurd cc
-  turn_found (arrowed ∷ ts) t r e = absurd cc
-  turn_found (signed b ∷ ts) t r e = go (is_turn_sign b) refl e
-    where
-      at_sign : (m : Bool) → turn_part params m ts ≡ Some (t, r) → ((w : List ℕ) (part : Part) → part_of params w ≡ Some part → IsTurn params (record { minus = m; part = part }) (signed b ∷ named w ∷ r) r) → IsTurn params t (signed b ∷ ts) r
-      at_sign m e made =
-          let (w, part, ts_is, part_is, t_is) = turn_part_found m ts t r e in
-          let k = made w part part_is in
-          let k' = subst (λ x. IsTurn params x (signed b ∷ named w ∷ r) r) (sym t_is) k in
-          subst (λ (us : List Token). IsTurn params t (signed b ∷ us) r) (sym ts_is) k'
-
-      by_sign : ((b == 45) ≡ false) × (b ≡ 43) ⊎ ((b == 45) ≡ true) × (b ≡ 45) → turn_part params (b == 45) ts ≡ Some (t, r) → IsTurn params t (signed b ∷ ts) r
-      by_sign (inl x) e = at_sign false (rw x.0 at e) (λ w part p. subst (λ k. IsTurn params (record { minus = false; part = part }) (signed k ∷ named w ∷ r) r) (sym x.1) (plus p))
-      by_sign (inr x) e = at_sign true (rw x.0 at e) (λ w part p. subst (λ k. IsTurn params (record { minus = true; part = part }) (signed k ∷ named w ∷ r) r) (sym x.1) (minus p))
-
-      go : (c : Bool) → is_turn_sign b ≡ c → cond c (turn_part params (b == 45) ts) None ≡ Some (t, r) → IsTurn params t (signed b ∷ ts) r
-      go true q e = by_sign (sign_of b q) e
-      go false q e = absurd cc
+  turn_found ts t r e =
+      let (x, sign, rest) = then_some _ (turn_sign ts) (t, r) e in
+      let (y, part, pair) = map_some _ (part_at params x.1) (t, r) rest in
+      let t_is : record { minus = x.0; part = y.0 } ≡ t = ap (λ z. z.0) pair in
+      let r_is : y.1 ≡ r = ap (λ z. z.1) pair in
+      let (w, us_is, p) = part_found x.1 y.0 y.1 part in
+      let k = with_sign x.0 ts x.1 y.1 w y.0 (sign_is ts x.0 x.1 sign) us_is p in
+      subst (λ z. IsTurn params z ts r) t_is (subst (λ (us : List Token). IsTurn params (record { minus = x.0; part = y.0 }) ts us) r_is k)
 
   pub turn_read : IsRead no_turn (turn params) (IsTurn params)
   turn_read t ts r (plus {w = w} p) = (rw p refl, refl)
@@ -215,10 +223,9 @@ module _ (params : List (List ℕ)) where
 
   pub sum_found : (ts : List Token) (first : Part) (rest : List Turn) (r : List Token) → sum_at params ts ≡ Some ((first, rest), r) → IsSum params first rest ts r
   sum_found ts first rest r e =
-      let (x, word, e1) = then_some _ (word_at (λ w. true) ts) ((first, rest), r) e in
-      let (part, part_is, e2) = then_some _ (part_of params x.0) ((first, rest), r) e1 in
-      let w = word_found (λ w. true) ts x.0 x.1 word in
-      subst (λ (us : List Token). IsSum params first rest us r) (sym w.0) (by_part x.0 x.1 part part_is e2)
+      let (x, part, e1) = then_some _ (part_at params ts) ((first, rest), r) e in
+      let (w, ts_is, p) = part_found ts x.0 x.1 part in
+      subst (λ (us : List Token). IsSum params first rest us r) (sym ts_is) (by_part w x.1 x.0 p e1)
     where
       by_part : (w : List ℕ) (us : List Token) (part : Part) → part_of params w ≡ Some part → after_part params part us ≡ Some ((first, rest), r) → IsSum params first rest (named w ∷ us) r
       by_part w us (Number v) p e =

@@ -41,15 +41,22 @@ abbrev pub is_distinct : List (List ℕ) → Bool
 is_distinct [] = true
 is_distinct (n ∷ ns) = not (is_among ns n) && is_distinct ns
 
+abbrev pub has_leading_zero : List ℕ → Bool
+has_leading_zero [] = false
+has_leading_zero (b ∷ []) = false
+has_leading_zero (b ∷ c ∷ bs) = b == 48
+
 -- decimal digits without a leading zero
 abbrev pub is_numeral : List ℕ → Bool
-is_numeral [] = false
-is_numeral (b ∷ []) = is_digit b
-is_numeral (b ∷ c ∷ bs) = not (b == 48) && list_all is_digit (b ∷ c ∷ bs)
+is_numeral w = begins_with_digit w && list_all is_digit w && not (has_leading_zero w)
+
+-- the number that digits write, where it is below 2^64
+abbrev pub word_number : List ℕ → Option ℕ
+word_number w = if nat_lt (digits_value 10 w) (2 ^ 64) then Some (digits_value 10 w) else None
 
 -- the number that a word is, where it is one below 2^64
 abbrev pub number_of : List ℕ → Option ℕ
-number_of w = if is_numeral w && nat_lt (digits_value 10 w) (2 ^ 64) then Some (digits_value 10 w) else None
+number_of w = if is_numeral w then word_number w else None
 
 -- the place of a parameter's name, counted from 0
 abbrev pub place_among : List (List ℕ) → List ℕ → Option ℕ

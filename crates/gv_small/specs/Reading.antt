@@ -102,20 +102,21 @@ parameters kind ts = if begins_with_sign 41 ts then Some ([], ts)
 
 -- ---- Sums
 
-abbrev pub is_turn_sign : ℕ → Bool
-is_turn_sign b = b == 43 || b == 45
-
 abbrev pub no_turn : List Token → Bool
 no_turn ts = not (begins_with_sign 43 ts || begins_with_sign 45 ts)
 
-abbrev pub turn_part : List (List ℕ) → Bool → List Token → Read Turn
-turn_part params minus ts = option_and_then (λ x. option_map (λ part. (record { minus = minus; part = part }, x.1)) (part_of params x.0)) (word_at (λ w. true) ts)
+-- `+` or `-`, and whether it is the second
+abbrev pub turn_sign : List Token → Read Bool
+turn_sign [] = None
+turn_sign (named w ∷ ts) = None
+turn_sign (arrowed ∷ ts) = None
+turn_sign (signed b ∷ ts) = if b == 43 then Some (false, ts) else (if b == 45 then Some (true, ts) else None)
+
+abbrev pub part_at : List (List ℕ) → List Token → Read Part
+part_at params ts = option_and_then (λ x. option_map (λ part. (part, x.1)) (part_of params x.0)) (word_at (λ w. true) ts)
 
 abbrev pub turn : List (List ℕ) → List Token → Read Turn
-turn params [] = None
-turn params (named w ∷ ts) = None
-turn params (arrowed ∷ ts) = None
-turn params (signed b ∷ ts) = if is_turn_sign b then turn_part params (b == 45) ts else None
+turn params ts = option_and_then (λ x. option_map (λ y. (record { minus = x.0; part = y.0 }, y.1)) (part_at params x.1)) (turn_sign ts)
 
 abbrev pub turns : List (List ℕ) → List Token → Read (List Turn)
 turns params ts = all_of no_turn (turn params) ts
@@ -126,4 +127,4 @@ after_part params (Number v) ts = Some ((Number v, []), ts)
 after_part params (Param i) ts = option_map (λ y. ((Param i, y.0), y.1)) (turns params ts)
 
 abbrev pub sum_at : List (List ℕ) → List Token → Read (Part × List Turn)
-sum_at params ts = option_and_then (λ x. option_and_then (λ part. after_part params part x.1) (part_of params x.0)) (word_at (λ w. true) ts)
+sum_at params ts = option_and_then (λ x. after_part params x.0 x.1) (part_at params ts)

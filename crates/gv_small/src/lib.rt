@@ -4,10 +4,14 @@
 mod cursor;
 mod names;
 mod parameter_list;
+mod part;
 mod reading;
+mod sum_reader;
 mod token;
 
 pub use cursor::Cursor;
+pub use names::distinct;
 pub use parameter_list::parameters;
 pub use reading::{begins_with_sign, expect, is_at_end, name, not_of_form, operation_name, word};
+pub use sum_reader::{Sum, read_sum};
 pub use token::{SmallToken, Taken};

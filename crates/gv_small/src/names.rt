@@ -93,3 +93,18 @@ pub fn is_operation_name(word: &[u8]) -> bool
 {
     is_name(word) && begins_with_capital(word) && word != b"Recover".as_slice()
 }
+
+/// The names as a set in their order, or None where one stands twice.
+pub fn distinct(alloc: Global, names: &[Name]) -> Result<Option<IndexSet<Name>>, NoMemory>
+    ensures some { IfOk result (λ set. IfSome set (λ s. (s.keys ≡ names.now) × (form.is_distinct names.now ≡ true))) }
+    ensures none { IfOk result (λ set. IfNone set (form.is_distinct names.now ≡ false)) }
+{
+    let mut set = IndexSet::new(alloc);
+    for name in names {
+        let added = set.insert(name.copy(alloc)?)?;
+        if !added {
+            return Ok(None);
+        }
+    }
+    Ok(Some(set))
+}

@@ -1,6 +1,6 @@
 //! Reading from a cursor: given tokens, names, parameters and Sums.
 
-ghost use Rattle.std.specs.Prelude.{◌≡◌, ◌-◌, ◌^◌, ◌<◌, ◌≤◌, [], length, true, Some, IsTrue, ◌↔◌, OnOk, IfOk, IfErr, OnErr};
+ghost use Rattle.std.specs.Prelude.{◌≡◌, ◌-◌, ◌^◌, ◌<◌, ◌≤◌, [], length, not, true, Some, IsTrue, ◌↔◌, OnOk, IfOk, IfErr, OnErr};
 ghost use Rattle.gv_small.specs.Tokens as spec;
 ghost use Rattle.gv_small.specs.Cursor.{tokens_left, kinds_left, bytes_left};
 ghost use Rattle.gv_small.specs.Forms.{is_name, is_operation_name};
@@ -102,6 +102,13 @@ pub fn begins_with_sign(cursor: &Cursor, sign: u8) -> bool
         ) => found == sign,
         _ => false,
     }
+}
+
+/// Whether the sign of a turn comes next.
+pub fn is_before_turn(cursor: &Cursor) -> bool
+    ensures { result ≡ not (reading.no_turn (kinds_left cursor.now)) }
+{
+    begins_with_sign(cursor, b'+') || begins_with_sign(cursor, b'-')
 }
 
 /// Whether no token is left.
