@@ -91,3 +91,8 @@ pub data IsTurn (params : List (List ℕ)) : Turn → List Token → List Token 
 pub data IsSum (params : List (List ℕ)) : Part → List Turn → List Token → List Token → Type 0 where
   number : {w : List ℕ} {v : ℕ} {after : List Token} → part_of params w ≡ Some (Number v) → IsSum params (Number v) [] (named w ∷ after) after
   turns : {w : List ℕ} {i : ℕ} {rest : List Turn} {ts after : List Token} → part_of params w ≡ Some (Param i) → Many (IsTurn params) rest ts after → IsSum params (Param i) rest (named w ∷ ts) after
+
+-- a semicolon that may be left out before a closing brace
+pub data MayEnd : List Token → List Token → Type 0 where
+  absent : {ts : List Token} → MayEnd ts ts
+  present : {ts : List Token} → MayEnd (signed 59 ∷ ts) ts

@@ -8,7 +8,7 @@ use Rattle.gv_base.specs.declared.small.Part.{Part}
 use Rattle.gv_base.specs.declared.small.Part.TheVariants.{Param, Number}
 use Rattle.gv_base.specs.declared.small.Turn.{Turn}
 use Rattle.gv_small.specs.Tokens.{Token, named, signed, arrowed, Placed, start}
-use Rattle.gv_small.specs.Forms.{is_name, part_of}
+use Rattle.gv_small.specs.Forms.{is_name, is_distinct, part_of}
 
 -- what a reader of A gives: an A and the tokens behind it
 abbrev pub Read : Type 0 → Type 0
@@ -128,3 +128,28 @@ after_part params (Param i) ts = option_map (λ y. ((Param i, y.0), y.1)) (turns
 
 abbrev pub sum_at : List (List ℕ) → List Token → Read (Part × List Turn)
 sum_at params ts = option_and_then (λ x. after_part params x.0 x.1) (part_at params ts)
+
+-- ---- the rest of an operation
+
+abbrev pub past_semicolon : List Token → List Token
+past_semicolon [] = []
+past_semicolon (named w ∷ ts) = named w ∷ ts
+past_semicolon (arrowed ∷ ts) = arrowed ∷ ts
+past_semicolon (signed b ∷ ts) = if b == 59 then ts else signed b ∷ ts
+
+-- the names, where no two are alike
+abbrev pub distinct_names : List (List ℕ) → Option (List (List ℕ))
+distinct_names ns = if is_distinct ns then Some ns else None
+
+-- ---- answers
+
+-- what a reader answers where a text spells this very value
+abbrev pub IsReadAs : {A : Type 0} → A → Result A Refusal → Type 0
+IsReadAs x (Ok y) = y ≡ x
+IsReadAs x (Err refusal.NoMemory) = Unit {0}
+IsReadAs x (Err (refusal.At place code)) = ⊥
+
+-- the one refusal of the small forms
+abbrev pub IsStartRefusal : Refusal → Type 0
+IsStartRefusal refusal.NoMemory = Unit {0}
+IsStartRefusal (refusal.At place code) = (place ≡ start) × (code ≡ NotInProfile)

@@ -1,10 +1,12 @@
 //! Words that are names, and names that differ.
 
-ghost use Rattle.std.specs.Prelude.{◌≡◌, true, false, IfOk, IfSome, IfNone, OnOk};
+ghost use Rattle.std.specs.Prelude.{◌≡◌, ◌∷◌, true, false, Some, IfOk, IfErr, IfSome, IfNone};
 ghost use Rattle.gv_small.specs.Forms as form;
+ghost use Rattle.gv_small.specs.Reading as reading;
 
 use crate::cursor::is_among;
-use gv_base::{Name, NoMemory};
+use crate::reading::not_of_form;
+use gv_base::{Name, NoMemory, Refusal};
 use indexmap::IndexSet;
 use std::alloc::Global;
 
@@ -107,4 +109,36 @@ pub fn distinct(alloc: Global, names: &[Name]) -> Result<Option<IndexSet<Name>>,
         }
     }
     Ok(Some(set))
+}
+
+/// The names as a set in their order. Refused where one stands twice.
+pub fn distinct_or_refused(alloc: Global, names: &[Name]) -> Result<IndexSet<Name>, Refusal>
+    ensures ok { IfOk result (λ set. reading.distinct_names names.now ≡ Some set.keys) }
+    ensures keys { IfOk result (λ set. set.keys ≡ names.now) }
+    ensures err { IfErr result (reading.Refuses (reading.distinct_names names.now)) }
+{
+    match distinct(alloc, names)? {
+        Some(set) => Ok(set),
+        None => Err(not_of_form()),
+    }
+}
+
+/// The parameters as a set in their order. Refused where two of the receiver and the parameters
+/// have one name.
+pub fn distinct_from(
+    alloc: Global,
+    receiver: &[u8],
+    params: &[Name],
+) -> Result<IndexSet<Name>, Refusal>
+    ensures ok { IfOk result (λ set. form.is_distinct (receiver.now ∷ params.now) ≡ true) }
+    ensures keys { IfOk result (λ set. set.keys ≡ params.now) }
+    ensures err { IfErr result (reading.Refuses (reading.distinct_names (receiver.now ∷ params.now))) }
+{
+    let set = distinct_or_refused(alloc, params)?;
+    let name = Name::from_slice(alloc, receiver)?;
+    if set.contains(&name) {
+        Err(not_of_form())
+    } else {
+        Ok(set)
+    }
 }

@@ -69,7 +69,7 @@ pub fn parameters(alloc: Global, cursor: &mut Cursor, kind: &[u8]) -> Result<Lis
     requires { length kind.now < 2 ^ 32 - 1 }
     ensures ok { IfOk result (λ names. reading.parameters (plain kind.now) (kinds_left cursor.old) ≡ Some (names, kinds_left cursor.new)) }
     ensures err { IfErr result (Refuses (reading.parameters (plain kind.now) (kinds_left cursor.old))) }
-    ensures count { IfOk result (λ names. length names + bytes_left cursor.new ≤ bytes_left cursor.old) }
+    ensures few { IfOk result (λ names. length names < 2 ^ 32) }
 {
     let mut names = List::new(alloc);
     if begins_with_sign(cursor, b')') {

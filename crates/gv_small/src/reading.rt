@@ -1,6 +1,6 @@
 //! Reading from a cursor: given tokens, names, parameters and Sums.
 
-ghost use Rattle.std.specs.Prelude.{◌≡◌, ◌-◌, ◌^◌, ◌<◌, ◌≤◌, [], length, not, true, Some, IsTrue, ◌↔◌, OnOk, IfOk, IfErr, OnErr};
+ghost use Rattle.std.specs.Prelude.{◌≡◌, ◌-◌, ◌^◌, ◌<◌, ◌≤◌, [], ◌∷◌, length, not, true, Some, IsTrue, ◌↔◌, OnOk, IfOk, IfErr, OnErr};
 ghost use Rattle.gv_small.specs.Tokens as spec;
 ghost use Rattle.gv_small.specs.Cursor.{tokens_left, kinds_left, bytes_left};
 ghost use Rattle.gv_small.specs.Forms.{is_name, is_operation_name};
@@ -39,6 +39,33 @@ pub fn expect(cursor: &mut Cursor, text: &[u8]) -> Result<(), Refusal>
         }
     }
     Ok(())
+}
+
+/// Takes this very word, where it comes next. Refused where it doesn't.
+pub fn expect_word(cursor: &mut Cursor, wanted: &[u8]) -> Result<(), Refusal>
+    ensures ok { OnOk result (reading.behind_all (spec.named wanted.now ∷ []) (kinds_left cursor.old) ≡ Some (kinds_left cursor.new)) }
+    ensures err { IfErr result (Refuses (reading.behind_all (spec.named wanted.now ∷ []) (kinds_left cursor.old))) }
+    ensures fewer { bytes_left cursor.new ≤ bytes_left cursor.old }
+{
+    match cursor.next() {
+        Some(
+            Taken {
+                token: SmallToken::Word(word),
+                ..
+            },
+        ) if wanted == word => Ok(()),
+        _ => Err(not_of_form()),
+    }
+}
+
+/// Passes over a semicolon, where one comes next.
+pub fn pass_semicolon(cursor: &mut Cursor)
+    ensures passed { kinds_left cursor.new ≡ reading.past_semicolon (kinds_left cursor.old) }
+    ensures fewer { bytes_left cursor.new ≤ bytes_left cursor.old }
+{
+    if begins_with_sign(cursor, b';') {
+        let _ = cursor.next();
+    }
 }
 
 /// Takes the word that comes next. Refused where none does.
