@@ -7,8 +7,8 @@ use Rattle.gv_base.specs.declared.small.Part.{Part}
 use Rattle.gv_base.specs.declared.small.Part.TheVariants.{Param, Number}
 use Rattle.gv_base.specs.declared.small.Turn.{Turn}
 use Rattle.gv_small.specs.Tokens.{Token, named, signed, arrowed}
-use Rattle.gv_small.specs.Forms.{is_name, part_of, Many, IsNextParameter, next, AreParameters, none, some, IsTurn, plus, minus, IsSum, number, turns}
-use Rattle.gv_small.specs.Reading.{Read, is_same, behind_all, word_at, begins_with_sign, parameter, next_parameter, no_comma, more_parameters, parameters, no_turn, turn_sign, part_at, turn, after_part, sum_at}
+use Rattle.gv_small.specs.Forms.{is_name, part_of, Many, IsNextParameter, next, AreParameters, none, some, IsTurn, plus, minus, IsSum, number, turns, MayEnd, absent, present, is_distinct, more}
+use Rattle.gv_small.specs.Reading.{Read, is_same, behind_all, word_at, begins_with_sign, parameter, next_parameter, no_comma, more_parameters, parameters, no_turn, turn_sign, part_at, turn, after_part, sum_at, past_semicolon, distinct_names}
 use Rattle.gv_small.specs.Reading as reading
 use Rattle.gv_small.proofs.Many.{Shrinks, IsFound, IsRead, all_of_found, all_of_read}
 use Rattle.gv_small.proofs.Cuts.{false_true}
@@ -22,6 +22,15 @@ then_some f (Some x) y e = (x, refl, e)
 pub map_some : {A B : Type 0} (f : A → B) (o : Option A) (y : B) → option_map f o ≡ Some y → (x : A) × (o ≡ Some x) × (f x ≡ y)
 map_some f None y e = absurd cc
 map_some f (Some x) y e = (x, refl, cc)
+
+-- the same for a reasoning that goes on
+pub then_case : {A B : Type 0} {C : Type 0} (f : A → Option B) (o : Option A) (y : B) → option_and_then f o ≡ Some y → ((x : A) → o ≡ Some x → f x ≡ Some y → C) → C
+then_case f None y e k = absurd cc
+then_case f (Some x) y e k = k x refl e
+
+pub map_case : {A B : Type 0} {C : Type 0} (f : A → B) (o : Option A) (y : B) → option_map f o ≡ Some y → ((x : A) → o ≡ Some x → f x ≡ y → C) → C
+map_case f None y e k = absurd cc
+map_case f (Some x) y e k = k x refl cc
 
 pub if_some : {A : Type 0} (b : Bool) (x y : A) → cond b (Some x) None ≡ Some y → (b ≡ true) × (x ≡ y)
 if_some true x y e = (refl, cc)
@@ -65,7 +74,7 @@ pub behind_front : (ws r : List Token) → behind_all ws (ws ++ r) ≡ Some r
 behind_front [] r = refl
 behind_front (w ∷ ws) r = rw (is_same_self w) (behind_front ws r)
 
-length_behind : (ws r : List Token) → length r ≤ length (ws ++ r)
+pub length_behind : (ws r : List Token) → length r ≤ length (ws ++ r)
 length_behind [] r = omega arith
 length_behind (w ∷ ws) r = let k = length_behind ws r in omega (arith, k)
 
@@ -251,3 +260,56 @@ module _ (params : List (List ℕ)) where
   pub sum_read : (first : Part) (rest : List Turn) (ts r : List Token) → IsSum params first rest ts r → no_turn r ≡ true → sum_at params ts ≡ Some ((first, rest), r)
   sum_read first rest ts r (number {w = w} p) e = rw p refl
   sum_read first rest ts r (turns {w = w} {ts = us} p m) e = rw (p, all_of_read no_turn (turn params) (IsTurn params) turn_shrinks turn_read rest us r m e) refl
+
+-- ---- lengths
+
+module _ {A : Type 0} (P : A → List Token → List Token → Type 0) where
+  pub many_length : ((a : A) (ts r : List Token) → P a ts r → length r ≤ length ts) → (xs : List A) (ts r : List Token) → Many P xs ts r → length r ≤ length ts
+  many_length h xs ts r none = omega arith
+  many_length h (x ∷ xs) ts r (more {middle = m} p k) =
+      let a : length m ≤ length ts = h x ts m p in
+      let b : length r ≤ length m = many_length h xs m r k in
+      omega (arith, a, b)
+
+next_length : (kind : List Token) (n : List ℕ) (ts r : List Token) → IsNextParameter kind n ts r → length r ≤ length ts
+next_length kind n ts r (next e) = let l = length_behind kind r in omega (arith, l)
+
+pub parameters_length : (kind : List Token) (ns : List (List ℕ)) (ts r : List Token) → AreParameters kind ns ts r → length r ≤ length ts
+parameters_length kind ns ts r none = omega arith
+parameters_length kind (n ∷ ns) ts r (some {ts = us} e m) =
+    let l = length_behind kind us in
+    let k : length r ≤ length us = many_length (IsNextParameter kind) (next_length kind) ns us r m in
+    omega (arith, l, k)
+
+pub sum_length : (params : List (List ℕ)) (first : Part) (rest : List Turn) (ts r : List Token) → IsSum params first rest ts r → length r < length ts
+sum_length params first rest ts r (number p) = omega arith
+sum_length params first rest ts r (turns {ts = us} p m) =
+    let k : length r ≤ length us = many_length (IsTurn params) (λ t vs q h. let l : length q < length vs = turn_length params t vs q h in omega (arith, l)) rest us r m in
+    omega (arith, k)
+
+pub may_end_length : (ts r : List Token) → MayEnd ts r → length r ≤ length ts
+may_end_length ts r absent = omega arith
+may_end_length ts r present = omega arith
+
+-- ---- semicolons and names
+
+pub past_found : (ts : List Token) → MayEnd ts (past_semicolon ts)
+past_found [] = absent
+past_found (named w ∷ ts) = absent
+past_found (arrowed ∷ ts) = absent
+past_found (signed b ∷ ts) = go (b == 59) refl
+  where
+    go : (t : Bool) → (b == 59) ≡ t → MayEnd (signed b ∷ ts) (cond (b == 59) ts (signed b ∷ ts))
+    go true e = let k : b ≡ 59 = search (rules, tests, e) in rw e (subst (λ x. MayEnd (signed x ∷ ts) ts) (sym k) present)
+    go false e = rw e absent
+
+-- no semicolon comes first
+abbrev pub BeginsNoEnd : List Token → Type 0
+BeginsNoEnd ts = past_semicolon ts ≡ ts
+
+pub past_read : (ts r : List Token) → MayEnd ts r → BeginsNoEnd r → past_semicolon ts ≡ r
+past_read ts r absent e = e
+past_read ts r present e = refl
+
+pub distinct_found : (ns ms : List (List ℕ)) → distinct_names ns ≡ Some ms → is_distinct ns ≡ true
+distinct_found ns ms e = (if_some (is_distinct ns) ns ms e).0

@@ -10,7 +10,7 @@ mod sum_reader;
 mod token;
 
 pub use cursor::Cursor;
-pub use names::{distinct_from, distinct_or_refused};
+pub use names::{distinct_from, distinct_operations, distinct_or_refused};
 pub use parameter_list::parameters;
 pub use reading::{
     begins_with_sign, expect, expect_word, is_at_end, name, not_of_form, operation_name,

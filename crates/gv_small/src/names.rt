@@ -1,12 +1,12 @@
 //! Words that are names, and names that differ.
 
-ghost use Rattle.std.specs.Prelude.{◌≡◌, ◌∷◌, true, false, Some, IfOk, IfErr, IfSome, IfNone};
+ghost use Rattle.std.specs.Prelude.{◌≡◌, ◌∷◌, true, false, Some, map, IfOk, OnOk, IfErr, IfSome, IfNone};
 ghost use Rattle.gv_small.specs.Forms as form;
 ghost use Rattle.gv_small.specs.Reading as reading;
 
 use crate::cursor::is_among;
 use crate::reading::not_of_form;
-use gv_base::{Name, NoMemory, Refusal};
+use gv_base::{List, Name, NoMemory, Refusal, SmallOp};
 use indexmap::IndexSet;
 use std::alloc::Global;
 
@@ -141,4 +141,24 @@ pub fn distinct_from(
     } else {
         Ok(set)
     }
+}
+
+fn operation_names(alloc: Global, ops: &[SmallOp]) -> Result<List<Name>, NoMemory>
+    ensures { IfOk result (λ names. names ≡ map (λ op. op.name) ops.now) }
+{
+    let mut names = List::new(alloc);
+    for op in ops {
+        names.push(op.name.copy(alloc)?)?;
+    }
+    Ok(names)
+}
+
+/// Refused where two operations have one name.
+pub fn distinct_operations(alloc: Global, ops: &[SmallOp]) -> Result<(), Refusal>
+    ensures ok { OnOk result (form.is_distinct (map (λ op. op.name) ops.now) ≡ true) }
+    ensures err { IfErr result (reading.Refuses (reading.distinct_names (map (λ op. op.name) ops.now))) }
+{
+    let names = operation_names(alloc, ops)?;
+    let _set = distinct_or_refused(alloc, names.as_slice())?;
+    Ok(())
 }
