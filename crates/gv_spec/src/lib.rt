@@ -1,0 +1,2 @@
+//! What it is for a package to refine a specification: events, runs, histories and explanations.
+#![tactic(auto)]
