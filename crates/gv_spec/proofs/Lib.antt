@@ -1,1 +1,4 @@
 mod Adder
+mod Threads
+mod Moves
+mod AtOnce

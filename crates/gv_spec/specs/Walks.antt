@@ -47,6 +47,16 @@ dropped NeverCalled = NeverCalled
 dropped Answered = Answered
 dropped Dropped = Dropped
 
+-- goes on where a move was not refused
+abbrev pub onward : {A B : Type 0} → (A → Result B WalkCause) → Result A WalkCause → Result B WalkCause
+onward next (Ok w) = next w
+onward next (Err cause) = Err cause
+
+-- the same, with the number of the move
+abbrev pub located : {A : Type 0} → ℕ → (A → Result A WalkFault) → Result A WalkCause → Result A WalkFault
+located index next (Ok w) = next w
+located index next (Err cause) = Err (record { index = index; cause = cause })
+
 module _ {F V : Type 0} (atomic : Specification F V) where
   abbrev pub first_walk : WalkState F V
   first_walk = record { fields = atomic.first_fields; table = λ n. NeverCalled }
@@ -80,11 +90,6 @@ module _ {F V : Type 0} (atomic : Specification F V) where
   walk_moved w (move.Other entry.Crash) = Ok w
   walk_moved w (move.Other entry.Boot) = Ok (record { fields = atomic.crashed w.fields; table = λ n. dropped (w.table n) })
 
-  -- goes on where a move was not refused
-  abbrev pub onward : {A B : Type 0} → (A → Result B WalkCause) → Result A WalkCause → Result B WalkCause
-  onward next (Ok w) = next w
-  onward next (Err cause) = Err cause
-
   -- the walk after a list of moves, or the first cause
   abbrev pub walk_from : WalkState F V → List (Move V) → Result (WalkState F V) WalkCause
   walk_from w [] = Ok w
@@ -98,10 +103,6 @@ module _ {F V : Type 0} (atomic : Specification F V) where
 
   -- the same question asked move by move, which tells the first fault: an entry that isn't the
   -- history's next one is refused before the walk's own causes, and history left over after the last move
-  abbrev pub located : {A : Type 0} → ℕ → (A → Result A WalkFault) → Result A WalkCause → Result A WalkFault
-  located index next (Ok w) = next w
-  located index next (Err cause) = Err (record { index = index; cause = cause })
-
   abbrev pub walk_beside : ℕ → WalkState F V → List (Entry V) → List (Move V) → Result (WalkState F V) WalkFault
   walk_beside index w [] [] = Ok w
   walk_beside index w (e ∷ left) [] = Err (record { index = index; cause = Missing })
