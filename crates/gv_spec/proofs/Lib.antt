@@ -1,4 +1,5 @@
-mod Adder
-mod Threads
-mod Moves
-mod AtOnce
+pub mod Adder
+pub mod Threads
+pub mod Moves
+pub mod AtOnce
+pub mod SmallRuns

@@ -1,5 +1,5 @@
 -- The explanation in which each call acts just before its answer, and walks along lists in two parts.
-use Rattle.std.proofs.Common.{◌≡◌, ◌≢◌, ℕ, zero, suc, Bool, true, false, eqb, cond, List, [], ◌∷◌, ◌++◌, Result, Ok, Err, refl, ap, eq-eqb, arith}
+use Rattle.std.proofs.Common.{◌≡◌, ◌≢◌, ℕ, Bool, true, false, eqb, cond, List, [], ◌∷◌, ◌++◌, Result, Ok, Err, refl, ap, eq-eqb, arith}
 use Rattle.std.proofs.lemmas.Bool.Decides.{nat_tests}
 use Rattle.gv_spec.specs.Entry as entry
 use Rattle.gv_spec.specs.Move as move
