@@ -3,3 +3,4 @@ pub mod Threads
 pub mod Moves
 pub mod AtOnce
 pub mod SmallRuns
+pub mod RunLaws

@@ -7,3 +7,4 @@ pub mod Runs
 pub mod Walks
 pub mod Refines
 pub mod Small
+pub mod RunLaws

@@ -1,0 +1,35 @@
+//! Laws of the definitions in this crate. Each function does nothing: its contract is the law.
+
+ghost use Rattle.gv_spec.specs.RunLaws.{ChangesNothing, NoCallBeforeBoot, NoStepOfEnded, EndedStays, CrashDrops, NoFail, UndefinedStays, DefinedThroughout};
+ghost use Rattle.gv_spec.specs.Small.{AgreeOps, SmallRefines, SmallRefinesWithoutCrash};
+
+use gv_base::Small;
+
+/// A package of the small form refines a specification of the small form that has the same
+/// operations with the same Sums: in every run, and so in every run without a crash.
+pub fn small_refines(program: &Small, small: &Small)
+    requires { AgreeOps program.now small.now }
+    ensures every { SmallRefines program.now small.now }
+    ensures without_crash { SmallRefinesWithoutCrash program.now small.now }
+{}
+
+/// What no event changes, for any machine: an event that isn't possible changes nothing, and these
+/// aren't possible: a call before a boot, a step of a thread that has ended, the failure of a disk
+/// that may not fail, anything after an undefined step.
+#[tactic(auto, using(crate::proofs::RunLaws::changes_nothing, crate::proofs::RunLaws::no_call_before_boot, crate::proofs::RunLaws::no_step_of_ended, crate::proofs::RunLaws::no_fail, crate::proofs::RunLaws::undefined_stays))]
+pub fn impossible_events<W, T, R, V>()
+    ensures unchanged { ChangesNothing W T R V }
+    ensures call { NoCallBeforeBoot W T R V }
+    ensures step { NoStepOfEnded W T R V }
+    ensures fail { NoFail W T R V }
+    ensures undefined { UndefinedStays W T R V }
+{}
+
+/// What stays in a run, for any machine: a thread that has ended or was dropped stays so, a crash
+/// drops every thread, and a run without a fault at its end had no undefined step.
+#[tactic(auto, using(crate::proofs::RunLaws::stays_ended, crate::proofs::RunLaws::crash_drops_all, crate::proofs::RunLaws::throughout))]
+pub fn lasting<W, T, R, V>()
+    ensures ended { EndedStays W T R V }
+    ensures crash { CrashDrops W T R V }
+    ensures defined { DefinedThroughout W T R V }
+{}
