@@ -4,3 +4,4 @@ pub mod Moves
 pub mod AtOnce
 pub mod SmallRuns
 pub mod RunLaws
+pub mod WalkLaws

@@ -8,3 +8,4 @@ pub mod Walks
 pub mod Refines
 pub mod Small
 pub mod RunLaws
+pub mod WalkLaws
