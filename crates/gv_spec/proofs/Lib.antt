@@ -1,4 +1,4 @@
-pub mod Adder
+pub mod Examples
 pub mod Threads
 pub mod Moves
 pub mod AtOnce

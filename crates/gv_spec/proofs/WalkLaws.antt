@@ -1,15 +1,14 @@
 -- Laws of walks and explanations, over any specification.
-use Rattle.std.proofs.Common.{◌≡◌, ◌≢◌, ◌↔◌, ◌⊎◌, ℕ, zero, suc, ◌+◌, ◌≤◌, ◌<◌, Bool, true, false, eqb, cond, ◌&&◌, IsTrue, List, [], ◌∷◌, ◌++◌, Result, Ok, Err, refl, sym, ap, subst, ◌∙◌, inl, inr, arith, eqb-true, eq-eqb}
-use Rattle.std.proofs.lemmas.Bool.Decides.{nat_tests}
+use Rattle.std.proofs.Common.{◌≡◌, ◌≢◌, ◌↔◌, ◌⊎◌, ℕ, ◌+◌, ◌≤◌, Bool, true, false, eqb, cond, ◌&&◌, IsTrue, List, [], ◌∷◌, ◌++◌, Result, Ok, Err, refl, sym, ap, subst, ◌∙◌, inl, inr, arith, eqb-true, eq-eqb}
 use lib.Pointwise.{pointwise, pointwise_decides}
 use Rattle.gv_spec.specs.Entry as entry
 use Rattle.gv_spec.specs.Move as move
 use Rattle.gv_spec.specs.Entry.{Entry, same_entry}
 use Rattle.gv_spec.specs.Move.{Move, entries_of}
 use Rattle.gv_spec.specs.Specification.{Specification}
-use Rattle.gv_spec.specs.Walks.{Standing, NeverCalled, Called, Acted, Answered, Dropped, WalkState, WalkCause, WalkFault, Order, WrongReply, entered, dropped, onward, located, first_walk, walk_called, walk_acted, walk_answered, walk_moved, walk_from, Explains, walk_beside, walk}
+use Rattle.gv_spec.specs.Walks.{Standing, NeverCalled, Called, Acted, Answered, Dropped, WalkState, WalkCause, WalkFault, Order, WrongReply, entered, dropped, onward, located, first_walk, walk_called, walk_acted, walk_answered, walk_moved, walk_from, Explains, walk_beside}
 use Rattle.gv_spec.specs.WalkLaws.{ActsWith, WalkTells, ActsOnce, AnsweredActs, NoActAfterBoot, NoWrongReply}
-use Rattle.gv_spec.proofs.Moves.{entered_same, entered_other, walk_append}
+use Rattle.gv_spec.proofs.Moves.{entered_same, walk_append}
 
 -- ---- entries alike
 
@@ -275,24 +274,27 @@ module _ {F V : Type 0} (atomic : Specification F V) where
   -- one move: the standing was there, or this move made it
   acted_before : (w u : WalkState F V) (m : Move V) (n : ℕ) (kept : V) (ms : List (Move V)) → Walked atomic w u m → u.table n ≡ Acted kept → (w.table n ≡ Acted kept) ⊎ ActPart w (m ∷ ms) n kept
   acted_before w u m n kept ms (by_call k op args e f t) h = elim (entered_cases w.table k (Called op args) n) [
-      inl p ↦ absurd (let d = sym p.1 ∙ sym (ap (λ z. z n) t) ∙ h in cc)
-    | inr p ↦ inl (sym p ∙ sym (ap (λ z. z n) t) ∙ h) ]
+    | inl p ↦ absurd (let d = sym p.1 ∙ sym (ap (λ z. z n) t) ∙ h in cc)
+    | inr p ↦ inl (sym p ∙ sym (ap (λ z. z n) t) ∙ h)
+  ]
   acted_before w u m n kept ms (by_act k op args e t) h = elim (entered_cases w.table k (Acted (atomic.applied op args w.fields).1) n) [
-      inl p ↦ inr (record {
-        op = op;
-        args = args;
-        before = [];
-        since = ms;
-        parts = ap (λ z. move.Act z ∷ ms) (sym p.0);
-        at = w;
-        reached = refl;
-        stood = ap w.table p.0 ∙ e;
-        replied = acted_same (atomic.applied op args w.fields).1 kept (sym p.1 ∙ sym (ap (λ z. z n) t) ∙ h);
-      })
-    | inr p ↦ inl (sym p ∙ sym (ap (λ z. z n) t) ∙ h) ]
+    | inl p ↦ inr (record {
+      op = op;
+      args = args;
+      before = [];
+      since = ms;
+      parts = ap (λ z. move.Act z ∷ ms) (sym p.0);
+      at = w;
+      reached = refl;
+      stood = ap w.table p.0 ∙ e;
+      replied = acted_same (atomic.applied op args w.fields).1 kept (sym p.1 ∙ sym (ap (λ z. z n) t) ∙ h);
+    })
+    | inr p ↦ inl (sym p ∙ sym (ap (λ z. z n) t) ∙ h)
+  ]
   acted_before w u m n kept ms (by_answer k reply e t) h = elim (entered_cases w.table k Answered n) [
-      inl p ↦ absurd (let d = sym p.1 ∙ sym (ap (λ z. z n) t) ∙ h in cc)
-    | inr p ↦ inl (sym p ∙ sym (ap (λ z. z n) t) ∙ h) ]
+    | inl p ↦ absurd (let d = sym p.1 ∙ sym (ap (λ z. z n) t) ∙ h in cc)
+    | inr p ↦ inl (sym p ∙ sym (ap (λ z. z n) t) ∙ h)
+  ]
   acted_before w u m n kept ms (by_crash t) h = inl (sym (ap (λ z. z n) t) ∙ h)
   acted_before w u m n kept ms (by_boot t) h = absurd (undropped_acted (w.table n) kept (sym (ap (λ z. z n) t) ∙ h))
 
@@ -305,32 +307,36 @@ module _ {F V : Type 0} (atomic : Specification F V) where
           → (w.table n ≡ Acted kept) ⊎ ActPart w (m ∷ ms) n kept
       go (Err cause) first k ih = absurd cc
       go (Ok u) first k ih = elim (ih u k) [
-          inl a ↦ acted_before w u m n kept ms (moved_walked atomic w u m first) a
+        | inl a ↦ acted_before w u m n kept ms (moved_walked atomic w u m first) a
         | inr part ↦ inr (record {
-            op = part.op;
-            args = part.args;
-            before = m ∷ part.before;
-            since = part.since;
-            parts = ap (λ z. m ∷ z) part.parts;
-            at = part.at;
-            reached = rw first part.reached;
-            stood = part.stood;
-            replied = part.replied;
-          }) ]
+          op = part.op;
+          args = part.args;
+          before = m ∷ part.before;
+          since = part.since;
+          parts = ap (λ z. m ∷ z) part.parts;
+          at = part.at;
+          reached = rw first part.reached;
+          stood = part.stood;
+          replied = part.replied;
+        })
+      ]
 
   called_before : (w u : WalkState F V) (m : Move V) (n op : ℕ) (args : List V) (ms : List (Move V)) → Walked atomic w u m → u.table n ≡ Called op args → (w.table n ≡ Called op args) ⊎ CallPart (m ∷ ms) n op args
   called_before w u m n op args ms (by_call k o a e f t) h = elim (entered_cases w.table k (Called o a) n) [
-      inl p ↦ inr (
-          let same = called_same o op a args (sym p.1 ∙ sym (ap (λ z. z n) t) ∙ h) in
-          let front : move.Other (entry.Call k o a) ≡ move.Other (entry.Call n op args) = (let d = p.0 in let x = same.0 in let y = same.1 in cc) in
-          record { before = []; since = ms; parts = ap (λ z. z ∷ ms) front })
-    | inr p ↦ inl (sym p ∙ sym (ap (λ z. z n) t) ∙ h) ]
+    | inl p ↦ inr (
+        let same = called_same o op a args (sym p.1 ∙ sym (ap (λ z. z n) t) ∙ h) in
+        let front : move.Other (entry.Call k o a) ≡ move.Other (entry.Call n op args) = (let d = p.0 in let x = same.0 in let y = same.1 in cc) in
+        record { before = []; since = ms; parts = ap (λ z. z ∷ ms) front })
+    | inr p ↦ inl (sym p ∙ sym (ap (λ z. z n) t) ∙ h)
+  ]
   called_before w u m n op args ms (by_act k o a e t) h = elim (entered_cases w.table k (Acted (atomic.applied o a w.fields).1) n) [
-      inl p ↦ absurd (let d = sym p.1 ∙ sym (ap (λ z. z n) t) ∙ h in cc)
-    | inr p ↦ inl (sym p ∙ sym (ap (λ z. z n) t) ∙ h) ]
+    | inl p ↦ absurd (let d = sym p.1 ∙ sym (ap (λ z. z n) t) ∙ h in cc)
+    | inr p ↦ inl (sym p ∙ sym (ap (λ z. z n) t) ∙ h)
+  ]
   called_before w u m n op args ms (by_answer k reply e t) h = elim (entered_cases w.table k Answered n) [
-      inl p ↦ absurd (let d = sym p.1 ∙ sym (ap (λ z. z n) t) ∙ h in cc)
-    | inr p ↦ inl (sym p ∙ sym (ap (λ z. z n) t) ∙ h) ]
+    | inl p ↦ absurd (let d = sym p.1 ∙ sym (ap (λ z. z n) t) ∙ h in cc)
+    | inr p ↦ inl (sym p ∙ sym (ap (λ z. z n) t) ∙ h)
+  ]
   called_before w u m n op args ms (by_crash t) h = inl (sym (ap (λ z. z n) t) ∙ h)
   called_before w u m n op args ms (by_boot t) h = absurd (undropped_called (w.table n) op args (sym (ap (λ z. z n) t) ∙ h))
 
@@ -343,8 +349,9 @@ module _ {F V : Type 0} (atomic : Specification F V) where
           → (w.table n ≡ Called op args) ⊎ CallPart (m ∷ ms) n op args
       go (Err cause) first k ih = absurd cc
       go (Ok u) first k ih = elim (ih u k) [
-          inl a ↦ called_before w u m n op args ms (moved_walked atomic w u m first) a
-        | inr part ↦ inr (record { before = m ∷ part.before; since = part.since; parts = ap (λ z. m ∷ z) part.parts }) ]
+        | inl a ↦ called_before w u m n op args ms (moved_walked atomic w u m first) a
+        | inr part ↦ inr (record { before = m ∷ part.before; since = part.since; parts = ap (λ z. m ∷ z) part.parts })
+      ]
 
   never : (n : ℕ) (c : Standing V) → c ≡ NeverCalled → (reply : V) → c ≡ Acted reply → ⊥
   never n c e reply h = (let d = sym e ∙ h in cc)
@@ -356,8 +363,9 @@ module _ {F V : Type 0} (atomic : Specification F V) where
       let t = taken atomic s.mid v (move.Other (entry.Answer n reply)) rest s.back in
       let stood = answer_table atomic s.mid t.next n reply t.first in
       elim (acted_where (first_walk atomic) s.mid front n reply s.front stood) [
-        inl h ↦ absurd (never n NeverCalled refl reply h)
-      | inr part ↦ started part (called_where (first_walk atomic) part.at part.before n part.op part.args part.reached part.stood) ]
+        | inl h ↦ absurd (never n NeverCalled refl reply h)
+        | inr part ↦ started part (called_where (first_walk atomic) part.at part.before n part.op part.args part.reached part.stood)
+      ]
     where
       started : (part : ActPart (first_walk atomic) front n reply) → (NeverCalled ≡ Called part.op part.args) ⊎ CallPart part.before n part.op part.args → ActsWith atomic n reply front
       started part (inl h) = absurd cc
@@ -372,3 +380,134 @@ module _ {F V : Type 0} (atomic : Specification F V) where
         reached = subst (λ z. walk_from atomic (first_walk atomic) z ≡ Ok part.at) call.parts part.reached;
         replied = part.replied;
       }
+
+  -- ---- a history with a wrong reply
+
+  record Cut (ms : List (Move V)) (front : List (Entry V)) (e : Entry V) (rest : List (Entry V)) : Type 0 where
+    before : List (Move V)
+    since : List (Move V)
+    parts : ms ≡ before ++ move.Other e ∷ since
+    left : entries_of since ≡ rest
+
+  -- where the moves stand whose entries are these
+  cut : (ms : List (Move V)) (front : List (Entry V)) (e : Entry V) (rest : List (Entry V)) → entries_of ms ≡ front ++ e ∷ rest → Cut ms front e rest
+  cut [] [] e rest h = absurd cc
+  cut [] (f ∷ front) e rest h = absurd cc
+  cut (move.Act n ∷ ms) front e rest h = (let c = cut ms front e rest h in record { before = move.Act n ∷ c.before; since = c.since; parts = ap (λ z. move.Act n ∷ z) c.parts; left = c.left })
+  cut (move.Other m ∷ ms) [] e rest h = (
+      let same : m ≡ e = cc in
+      let left : entries_of ms ≡ rest = cc in
+      record { before = []; since = ms; parts = ap (λ z. move.Other z ∷ ms) same; left = left })
+  cut (move.Other m ∷ ms) (f ∷ front) e rest h = (
+      let left : entries_of ms ≡ front ++ e ∷ rest = cc in
+      let c = cut ms front e rest left in
+      record { before = move.Other m ∷ c.before; since = c.since; parts = ap (λ z. move.Other m ∷ z) c.parts; left = c.left })
+
+  not_called_and_acted : (c : Standing V) (op : ℕ) (args : List V) (reply : V) → c ≡ Called op args → c ≡ Acted reply → ⊥
+  not_called_and_acted c op args reply e h = (let d = sym e ∙ h in cc)
+
+  -- from a move on that starts call n, an answer is its operation's reply
+  replies_from : (w v : WalkState F V) (n op : ℕ) (args : List V) (reply : V) (middle rest : List (Move V))
+      → walk_from atomic w (move.Other (entry.Call n op args) ∷ (middle ++ move.Other (entry.Answer n reply) ∷ rest)) ≡ Ok v → (fields : F) × (reply ≡ (atomic.applied op args fields).1)
+  replies_from w v n op args reply middle rest e =
+      let t = taken atomic w v (move.Other (entry.Call n op args)) (middle ++ move.Other (entry.Answer n reply) ∷ rest) e in
+      let called = (call_ranks atomic w t.next n op args t.first).1 in
+      let s = split atomic t.next v middle (move.Other (entry.Answer n reply) ∷ rest) t.rest in
+      let a = taken atomic s.mid v (move.Other (entry.Answer n reply)) rest s.back in
+      let stood = answer_table atomic s.mid a.next n reply a.first in
+      elim (acted_where t.next s.mid middle n reply s.front stood) [
+        | inl h ↦ absurd (not_called_and_acted (t.next.table n) op args reply called h)
+        | inr part ↦ go t.next called part (called_where t.next part.at part.before n part.op part.args part.reached part.stood)
+      ]
+    where
+      go : (u : WalkState F V) → u.table n ≡ Called op args → (part : ActPart u middle n reply) → (u.table n ≡ Called part.op part.args) ⊎ CallPart part.before n part.op part.args → (fields : F) × (reply ≡ (atomic.applied op args fields).1)
+      go u called part (inl h) =
+          let same = called_same op part.op args part.args (sym called ∙ h) in
+          (part.at.fields, sym (rw (same.0, same.1) part.replied))
+      go u called part (inr call) =
+          let path : walk_from atomic u (call.before ++ move.Other (entry.Call n part.op part.args) ∷ call.since) ≡ Ok part.at = subst (λ z. walk_from atomic u z ≡ Ok part.at) call.parts part.reached in
+          let s = split atomic u part.at call.before (move.Other (entry.Call n part.op part.args) ∷ call.since) path in
+          let more = grows atomic u s.mid call.before n s.front in
+          let one = rank_called atomic u n op args called in
+          let again = taken atomic s.mid part.at (move.Other (entry.Call n part.op part.args)) call.since s.back in
+          let none = (call_ranks atomic s.mid again.next n part.op part.args again.first).0 in
+          absurd (omega (arith, more, one, none))
+
+  no_wrong_reply_in : (n op : ℕ) (args : List V) (reply : V) (front middle rest : List (Entry V)) → ((fields : F) → reply ≢ (atomic.applied op args fields).1)
+      → (moves : List (Move V)) → Explains atomic moves (front ++ entry.Call n op args ∷ (middle ++ entry.Answer n reply ∷ rest)) → ⊥
+  no_wrong_reply_in n op args reply front middle rest wrong moves x =
+      let c = cut moves front (entry.Call n op args) (middle ++ entry.Answer n reply ∷ rest) x.entries in
+      let d = cut c.since middle (entry.Answer n reply) rest c.left in
+      let path : walk_from atomic (first_walk atomic) (c.before ++ move.Other (entry.Call n op args) ∷ (d.before ++ move.Other (entry.Answer n reply) ∷ d.since)) ≡ Ok x.end =
+      subst (λ z. walk_from atomic (first_walk atomic) (c.before ++ move.Other (entry.Call n op args) ∷ z) ≡ Ok x.end) d.parts (subst (λ z. walk_from atomic (first_walk atomic) z ≡ Ok x.end) c.parts x.passes) in
+      let s = split atomic (first_walk atomic) x.end c.before (move.Other (entry.Call n op args) ∷ (d.before ++ move.Other (entry.Answer n reply) ∷ d.since)) path in
+      let found = replies_from s.mid x.end n op args reply d.before d.since s.back in
+      wrong found.0 found.1
+
+  -- ---- the walk beside a history
+
+  located_ok : (index : ℕ) (next : WalkState F V → Result (WalkState F V) WalkFault) (plain : WalkState F V → Result (WalkState F V) WalkCause) (same : Type 0) (end : WalkState F V)
+      → (r : Result (WalkState F V) WalkCause) → ((u : WalkState F V) → next u ≡ Ok end → same × (plain u ≡ Ok end)) → located index next r ≡ Ok end → same × (onward plain r ≡ Ok end)
+  located_ok index next plain same end (Ok u) h e = h u e
+  located_ok index next plain same end (Err cause) h e = absurd cc
+
+  told : (index : ℕ) (w : WalkState F V) (left : List (Entry V)) (ms : List (Move V)) (end : WalkState F V) → walk_beside atomic index w left ms ≡ Ok end → (entries_of ms ≡ left) × (walk_from atomic w ms ≡ Ok end)
+  told index w [] [] end e = (refl, ap walk_plain (ok_beside w end e))
+    where
+      walk_plain : WalkState F V → Result (WalkState F V) WalkCause
+      walk_plain u = Ok u
+
+      ok_beside : (x y : WalkState F V) → walk_beside atomic index x [] [] ≡ Ok y → x ≡ y
+      ok_beside x y h = cc
+  told index w (f ∷ left) [] end e = absurd cc
+  told index w [] (move.Act n ∷ ms) end e = located_ok index (λ u. walk_beside atomic (index + 1) u [] ms) (λ u. walk_from atomic u ms) (entries_of ms ≡ []) end (walk_moved atomic w (move.Act n)) (λ u h. told (index + 1) u [] ms end h) e
+  told index w (f ∷ left) (move.Act n ∷ ms) end e = located_ok index (λ u. walk_beside atomic (index + 1) u (f ∷ left) ms) (λ u. walk_from atomic u ms) (entries_of ms ≡ f ∷ left) end (walk_moved atomic w (move.Act n)) (λ u h. told (index + 1) u (f ∷ left) ms end h) e
+  told index w [] (move.Other m ∷ ms) end e = absurd cc
+  told index w (f ∷ left) (move.Other m ∷ ms) end e = go (same_entry atomic.same m f) refl e (λ u h. told (index + 1) u left ms end h)
+    where
+      go : (b : Bool) → same_entry atomic.same m f ≡ b
+          → cond b (located index (λ u. walk_beside atomic (index + 1) u left ms) (walk_moved atomic w (move.Other m))) (Err (record { index = index; cause = Order })) ≡ Ok end
+          → ((u : WalkState F V) → walk_beside atomic (index + 1) u left ms ≡ Ok end → (entries_of ms ≡ left) × (walk_from atomic u ms ≡ Ok end))
+          → (m ∷ entries_of ms ≡ f ∷ left) × (walk_from atomic w (move.Other m ∷ ms) ≡ Ok end)
+      go false t h ih = absurd cc
+      go true t h ih =
+          let rest = located_ok index (λ u. walk_beside atomic (index + 1) u left ms) (λ u. walk_from atomic u ms) (entries_of ms ≡ left) end (walk_moved atomic w (move.Other m)) ih h in
+          let alike = entries_same atomic.same atomic.decides m f t in
+          ((let tail = rest.0 in cc), rest.1)
+
+  onward_ok : (index : ℕ) (next : WalkState F V → Result (WalkState F V) WalkFault) (plain : WalkState F V → Result (WalkState F V) WalkCause) (end : WalkState F V)
+      → (r : Result (WalkState F V) WalkCause) → ((u : WalkState F V) → plain u ≡ Ok end → next u ≡ Ok end) → onward plain r ≡ Ok end → located index next r ≡ Ok end
+  onward_ok index next plain end (Ok u) h e = h u e
+  onward_ok index next plain end (Err cause) h e = absurd cc
+
+  tells : (index : ℕ) (w : WalkState F V) (left : List (Entry V)) (ms : List (Move V)) (end : WalkState F V) → entries_of ms ≡ left → walk_from atomic w ms ≡ Ok end → walk_beside atomic index w left ms ≡ Ok end
+  tells index w [] [] end h e = ap beside (ok_same atomic w end e)
+    where
+      beside : WalkState F V → Result (WalkState F V) WalkFault
+      beside u = Ok u
+  tells index w (f ∷ left) [] end h e = absurd cc
+  tells index w [] (move.Act n ∷ ms) end h e = onward_ok index (λ u. walk_beside atomic (index + 1) u [] ms) (λ u. walk_from atomic u ms) end (walk_moved atomic w (move.Act n)) (λ u k. tells (index + 1) u [] ms end h k) e
+  tells index w (f ∷ left) (move.Act n ∷ ms) end h e = onward_ok index (λ u. walk_beside atomic (index + 1) u (f ∷ left) ms) (λ u. walk_from atomic u ms) end (walk_moved atomic w (move.Act n)) (λ u k. tells (index + 1) u (f ∷ left) ms end h k) e
+  tells index w [] (move.Other m ∷ ms) end h e = absurd cc
+  tells index w (f ∷ left) (move.Other m ∷ ms) end h e =
+      let alike : m ≡ f = cc in
+      let rest : entries_of ms ≡ left = cc in
+      let test : same_entry atomic.same m f ≡ true = subst (λ z. same_entry atomic.same m z ≡ true) alike (own_entry atomic.same atomic.decides m) in
+      rw test (onward_ok index (λ u. walk_beside atomic (index + 1) u left ms) (λ u. walk_from atomic u ms) end (walk_moved atomic w (move.Other m)) (λ u k. tells (index + 1) u left ms end rest k) e)
+
+-- ---- the laws
+
+pub walk_tells : (F V : Type 0) → WalkTells F V
+walk_tells F V atomic history moves end = (told atomic 1 (first_walk atomic) history moves end, λ p. tells atomic 1 (first_walk atomic) history moves end p.0 p.1)
+
+pub acts_once : (F V : Type 0) → ActsOnce F V
+acts_once F V atomic history n front middle rest x = acts_once_from atomic (first_walk atomic) x.end n front middle rest x.passes
+
+pub acted_when_answered : (F V : Type 0) → AnsweredActs F V
+acted_when_answered F V atomic history n reply front rest x = answered_acts atomic n reply front rest x.end x.passes
+
+pub no_act_after_boot : (F V : Type 0) → NoActAfterBoot F V
+no_act_after_boot F V atomic history n op args front middle later rest x = no_act_after_boot_from atomic (first_walk atomic) x.end n op args front middle later rest x.passes
+
+pub no_wrong_reply : (F V : Type 0) → NoWrongReply F V
+no_wrong_reply F V atomic n op args reply front middle rest wrong moves x = no_wrong_reply_in atomic n op args reply front middle rest wrong moves x

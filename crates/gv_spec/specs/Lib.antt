@@ -9,3 +9,4 @@ pub mod Refines
 pub mod Small
 pub mod RunLaws
 pub mod WalkLaws
+pub mod Examples

@@ -1,6 +1,8 @@
 //! Laws of the definitions in this crate. Each function does nothing: its contract is the law.
 
 ghost use Rattle.gv_spec.specs.RunLaws.{ChangesNothing, NoCallBeforeBoot, NoStepOfEnded, EndedStays, CrashDrops, NoFail, UndefinedStays, DefinedThroughout};
+ghost use Rattle.gv_spec.specs.WalkLaws.{WalkTells, ActsOnce, AnsweredActs, NoActAfterBoot, NoWrongReply};
+ghost use Rattle.gv_spec.specs.Examples.{TwoCalls, CrashedCall, Refusals, SecondFailure};
 ghost use Rattle.gv_spec.specs.Small.{AgreeOps, SmallRefines, SmallRefinesWithoutCrash};
 
 use gv_base::Small;
@@ -32,4 +34,26 @@ pub fn lasting<W, T, R, V>()
     ensures ended { EndedStays W T R V }
     ensures crash { CrashDrops W T R V }
     ensures defined { DefinedThroughout W T R V }
+{}
+
+/// What an explanation tells, for any specification: a call acts at most once; an answered call has
+/// acted since its start, with the reply that it answers; a call that a boot left behind acts no
+/// more; no history with another reply than its operation's has an explanation. And the walk
+/// beside a history meets no fault exactly where the moves explain it.
+pub fn explanations<F, V>()
+    ensures tells { WalkTells F V }
+    ensures once { ActsOnce F V }
+    ensures answered { AnsweredActs F V }
+    ensures left_behind { NoActAfterBoot F V }
+    ensures right_replies { NoWrongReply F V }
+{}
+
+/// Worked runs, computed: two calls at the same time with their explanation, a call that a crash
+/// drops, what refuses moves and where, and a second failure of a disk.
+#[tactic(auto, using(crate::proofs::Examples::two_calls_run, crate::proofs::Examples::crashed_call_run, crate::proofs::Examples::walk_refusals, crate::proofs::Examples::second_failure))]
+pub fn worked()
+    ensures two_calls { TwoCalls }
+    ensures crashed_call { CrashedCall }
+    ensures refusals { Refusals }
+    ensures second_failure { SecondFailure }
 {}

@@ -3,4 +3,4 @@
 
 mod laws;
 
-pub use laws::{impossible_events, lasting, small_refines};
+pub use laws::{explanations, impossible_events, lasting, small_refines, worked};
