@@ -1,7 +1,9 @@
 -- The worked runs and walks, computed.
-use Rattle.std.proofs.Common.{◌≡◌, ℕ, [], ◌∷◌, refl, arith}
+use Rattle.std.proofs.Common.{◌≡◌, ◌-◌, ◌^◌, ℕ, List, [], ◌∷◌, refl, arith}
+use Rattle.gv_spec.specs.Event as event
+use Rattle.gv_spec.specs.Event.{Event}
 use Rattle.gv_spec.specs.Entry as entry
-use Rattle.gv_spec.specs.Examples.{TwoCalls, CrashedCall, Refusals, SecondFailure, adder}
+use Rattle.gv_spec.specs.Examples.{TwoCalls, CrashedCall, WrongPackage, Refusals, SecondFailure, adder}
 use Rattle.gv_spec.specs.Small.{specification_of}
 use Rattle.gv_spec.proofs.WalkLaws.{no_wrong_reply}
 
@@ -9,6 +11,9 @@ pub two_calls_run : TwoCalls
 two_calls_run = record {
   history = refl;
   defined = refl;
+  booted = refl;
+  under_way = refl;
+  all_ended = refl;
   explained = refl;
   before_boot = refl;
   one_argument = refl;
@@ -41,3 +46,10 @@ walk_refusals = record {
 
 pub second_failure : SecondFailure
 second_failure = record { no_third_disk = refl; second = refl; after_crash = refl }
+
+-- one call of it answers what no act of a sum replies
+pub wrong_package : WrongPackage
+wrong_package refines =
+    let events : List (Event ℕ) = event.Step 1 ∷ event.Step 1 ∷ event.Call 0 (1 ∷ 2 ∷ []) ∷ event.Step 2 ∷ [] in
+    let x = refines events refl in
+    no_wrong_reply (Unit {0}) ℕ (specification_of adder) 1 0 (1 ∷ 2 ∷ []) (2 ^ 64 - 1) (entry.Boot ∷ []) [] [] (λ fields e. omega (arith, e)) x.moves x.explains

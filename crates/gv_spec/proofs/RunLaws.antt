@@ -5,7 +5,7 @@ use Rattle.gv_spec.specs.Event as event
 use Rattle.gv_spec.specs.Event.{Event}
 use Rattle.gv_spec.specs.Machine.{Answer, Next, Blocked, Undefined, Stepped, GoesOn, Returns, Machine}
 use Rattle.gv_spec.specs.Runs.{Role, Recovers, Answers, Helps, RunState, living, replaced, call_started, thread_ended, answered, disk_failed, unless_undefined, settled, first_state, crash_made, frame_returned, step_taken, step_made, call_made, event_made, outcome_of, after, run_of}
-use Rattle.gv_spec.specs.RunLaws.{ChangesNothing, NoCallBeforeBoot, NoStepOfEnded, EndedStays, CrashDrops, NoFail, UndefinedStays, DefinedThroughout}
+use Rattle.gv_spec.specs.RunLaws.{ChangesNothing, NoCallBeforeBoot, NoStepOfEnded, EndedStays, CrashHappens, CrashDrops, NoFail, UndefinedStays, DefinedThroughout}
 
 -- ---- threads
 
@@ -159,6 +159,9 @@ no_step_of_ended W T R V machine allows s number h = not_ended machine allows s 
 
 pub stays_ended : (W T R V : Type 0) → EndedStays W T R V
 stays_ended W T R V machine allows s e number h gone = ended_stays machine allows s e number h gone
+
+pub crash_happens : (W T R V : Type 0) → CrashHappens W T R V
+crash_happens W T R V machine allows s e = ap (λ o. unless_undefined o (event_made machine allows s event.Crash)) e
 
 pub crash_drops_all : (W T R V : Type 0) → CrashDrops W T R V
 crash_drops_all W T R V machine allows s number e h = dropped_by_crash machine allows s number e h

@@ -1,6 +1,7 @@
 -- Worked runs and walks: the package with the one operation `Add(a, b)`, which returns `a + b`.
-use Rattle.std.specs.Prelude.{◌≡◌, ◌-◌, ◌^◌, ℕ, false, List, [], ◌∷◌, take, Option, Some, None, Result, Ok, Err, IsTrue, is_ok, nat_lt, if◌then◌else◌, codes}
+use Rattle.std.specs.Prelude.{◌≡◌, ◌-◌, ◌^◌, ℕ, true, false, List, [], ◌∷◌, take, Option, Some, None, Result, Ok, Err, IsTrue, is_ok, nat_lt, if◌then◌else◌, codes}
 use Rattle.gv_base.specs.declared.small.Small.{Small}
+use Rattle.gv_base.specs.declared.small.SmallOp.{SmallOp}
 use Rattle.gv_base.specs.declared.small.Part.TheVariants as part
 use Rattle.gv_spec.specs.Event as event
 use Rattle.gv_spec.specs.Entry as entry
@@ -9,19 +10,24 @@ use Rattle.gv_spec.specs.Event.{Event}
 use Rattle.gv_spec.specs.Entry.{Entry}
 use Rattle.gv_spec.specs.Move.{Move}
 use Rattle.gv_spec.specs.Machine.{Answer, Next, Blocked, Returns, Machine}
-use Rattle.gv_spec.specs.Runs.{RunState, outcome_of, run_of}
+use Rattle.gv_spec.specs.Runs.{Answers, RunState, outcome_of, run_of}
 use Rattle.gv_spec.specs.Walks.{WalkState, WalkFault, WalkCause, Repeated, NotCalled, ActedAlready, NotActed, WrongReply, Order, Missing, Explains, walk}
-use Rattle.gv_spec.specs.Small.{SmallThread, SmallResult, machine_of, specification_of}
+use Rattle.gv_spec.specs.Small.{SmallThread, Sums, SmallResult, Reference, machine_of, specification_of, SmallRefinesWithoutCrash}
+
+abbrev pub add_op : SmallOp
+add_op = record {
+  name = codes "Add";
+  params = codes "a" ∷ codes "b" ∷ [];
+  first = part.Param 0;
+  rest = record { minus = false; part = part.Param 1 } ∷ [];
+}
 
 abbrev pub adder : Small
-adder = record {
-  ops = record {
-    name = codes "Add";
-    params = codes "a" ∷ codes "b" ∷ [];
-    first = part.Param 0;
-    rest = record { minus = false; part = part.Param 1 } ∷ [];
-  } ∷ [];
-}
+adder = record { ops = add_op ∷ [] }
+
+-- the same but for `a - b`
+abbrev pub subtractor : Small
+subtractor = record { ops = record add_op { rest = record { minus = true; part = part.Param 1 } ∷ [] } ∷ [] }
 
 abbrev pub adder_run : List (Event ℕ) → RunState (Unit {0}) SmallThread SmallResult ℕ
 adder_run events = run_of (machine_of adder) (specification_of adder).allows events
@@ -52,6 +58,10 @@ two_calls_moves = move.Other entry.Boot ∷ move.Other (entry.Call 1 0 (1 ∷ 2 
 pub record TwoCalls : Type 0 where
   pub history : (adder_run two_calls).history ≡ two_calls_history
   pub defined : (adder_run two_calls).fault ≡ None
+  -- the boot hands on the object that recovery made, and both calls are under way after their starts
+  pub booted : (adder_run (take 3 two_calls)).receiver ≡ Some (Reference 1)
+  pub under_way : (adder_run (take 5 two_calls)).threads ≡ None ∷ Some (Answers 1, Sums add_op (1 ∷ 2 ∷ [])) ∷ Some (Answers 2, Sums add_op (3 ∷ 4 ∷ [])) ∷ []
+  pub all_ended : (adder_run two_calls).threads ≡ None ∷ None ∷ None ∷ []
   pub explained : IsTrue (is_ok (adder_walk two_calls_history two_calls_moves))
   -- what isn't possible, each time after the events before it
   pub before_boot : adder_outcome [] (add 1 2) ≡ Blocked
@@ -70,6 +80,12 @@ crashed_call = event.Step 1 ∷ event.Step 1 ∷ add 1 2 ∷ event.Crash ∷ eve
 pub record CrashedCall : Type 0 where
   pub history : (adder_run crashed_call).history ≡ entry.Boot ∷ entry.Call 1 0 (1 ∷ 2 ∷ []) ∷ entry.Crash ∷ entry.Boot ∷ entry.Call 2 0 ((2 ^ 64 - 1) ∷ 1 ∷ []) ∷ entry.Answer 2 0 ∷ []
   pub was_dropped : adder_outcome (take 4 crashed_call) (event.Step 2) ≡ Blocked
+
+-- ---- a package that does something else
+
+-- the specification of a sum isn't refined by a difference
+abbrev pub WrongPackage : Type 0
+WrongPackage = SmallRefinesWithoutCrash subtractor adder → ⊥
 
 -- ---- what refuses a list of moves, at which move
 

@@ -3,29 +3,34 @@ use Rattle.std.specs.Prelude.{◌≡◌, ℕ, ◌≤◌, Bool, List, ◌∷◌, 
 use Rattle.gv_base.specs.declared.reason.Reason.{Reason}
 use Rattle.gv_spec.specs.Event as event
 use Rattle.gv_spec.specs.Event.{Event}
-use Rattle.gv_spec.specs.Machine.{Blocked, Undefined, Machine}
-use Rattle.gv_spec.specs.Runs.{RunState, living, outcome_of, after, run_of}
+use Rattle.gv_spec.specs.Machine.{Undefined, Machine}
+use Rattle.gv_spec.specs.Runs.{RunState, living, crash_made, outcome_of, Happens, IsImpossible, after, run_of}
 
 module _ (W T R V : Type 0) where
   -- an event that isn't possible changes nothing
   abbrev pub ChangesNothing : Type 0
   ChangesNothing = (machine : Machine W T R V) (allows : ℕ → List V → Bool) (s : RunState W T R V) (e : Event V)
-      → outcome_of machine allows s e ≡ Blocked → after machine allows s e ≡ s
+      → IsImpossible machine allows s e → after machine allows s e ≡ s
 
   -- no call before a boot
   abbrev pub NoCallBeforeBoot : Type 0
   NoCallBeforeBoot = (machine : Machine W T R V) (allows : ℕ → List V → Bool) (s : RunState W T R V) (op : ℕ) (args : List V)
-      → s.receiver ≡ None → outcome_of machine allows s (event.Call op args) ≡ Blocked
+      → s.receiver ≡ None → IsImpossible machine allows s (event.Call op args)
 
   -- no step of a thread that doesn't exist, has ended or was dropped
   abbrev pub NoStepOfEnded : Type 0
   NoStepOfEnded = (machine : Machine W T R V) (allows : ℕ → List V → Bool) (s : RunState W T R V) (number : ℕ)
-      → living s.threads number ≡ None → outcome_of machine allows s (event.Step number) ≡ Blocked
+      → living s.threads number ≡ None → IsImpossible machine allows s (event.Step number)
 
   -- a thread that has ended or was dropped stays so, and no other gets its number
   abbrev pub EndedStays : Type 0
   EndedStays = (machine : Machine W T R V) (allows : ℕ → List V → Bool) (s : RunState W T R V) (e : Event V) (number : ℕ)
       → number ≤ length s.threads → living s.threads number ≡ None → living (after machine allows s e).threads number ≡ None
+
+  -- a crash is always possible
+  abbrev pub CrashHappens : Type 0
+  CrashHappens = (machine : Machine W T R V) (allows : ℕ → List V → Bool) (s : RunState W T R V)
+      → s.fault ≡ None → Happens machine allows s event.Crash (crash_made machine s)
 
   -- a crash drops every thread
   abbrev pub CrashDrops : Type 0
@@ -35,12 +40,12 @@ module _ (W T R V : Type 0) where
   -- no failure of a disk that may not fail
   abbrev pub NoFail : Type 0
   NoFail = (machine : Machine W T R V) (allows : ℕ → List V → Bool) (s : RunState W T R V) (disk : ℕ)
-      → machine.failed disk s.world ≡ None → outcome_of machine allows s (event.Fail disk) ≡ Blocked
+      → machine.failed disk s.world ≡ None → IsImpossible machine allows s (event.Fail disk)
 
   -- after an undefined step nothing is possible
   abbrev pub UndefinedStays : Type 0
   UndefinedStays = (machine : Machine W T R V) (allows : ℕ → List V → Bool) (s : RunState W T R V) (e : Event V) (reason : Reason)
-      → s.fault ≡ Some reason → outcome_of machine allows s e ≡ Blocked
+      → s.fault ≡ Some reason → IsImpossible machine allows s e
 
   -- a run that ends without a fault has met no undefined step
   abbrev pub DefinedThroughout : Type 0

@@ -1,5 +1,5 @@
 -- Runs of a machine: what each event does, and the history that is left.
-use Rattle.std.specs.Prelude.{◌≡◌, ◌≢◌, ℕ, zero, suc, Bool, true, false, List, [], ◌∷◌, ◌++◌, map, fold, slice_get, slice_set, Option, Some, None, Result, Ok, Err, option_and_then}
+use Rattle.std.specs.Prelude.{◌≡◌, ℕ, zero, suc, Bool, true, false, List, [], ◌∷◌, ◌++◌, map, fold, slice_get, slice_set, Option, Some, None, Result, Ok, Err, option_and_then}
 use Rattle.gv_base.specs.declared.reason.Reason.{Reason}
 use Rattle.gv_spec.specs.Event as event
 use Rattle.gv_spec.specs.Entry as entry
@@ -144,11 +144,12 @@ module _ {W T R V : Type 0} (machine : Machine W T R V) (allows : ℕ → List V
   abbrev pub outcome_of : RunState W T R V → Event V → Answer (RunState W T R V)
   outcome_of s e = unless_undefined s.fault (event_made s e)
 
+  -- the event is possible, and takes s to the next state
   abbrev pub Happens : RunState W T R V → Event V → RunState W T R V → Type 0
   Happens s e next = outcome_of s e ≡ Next next
 
-  abbrev pub IsPossible : RunState W T R V → Event V → Type 0
-  IsPossible s e = outcome_of s e ≢ Blocked
+  abbrev pub IsImpossible : RunState W T R V → Event V → Type 0
+  IsImpossible s e = outcome_of s e ≡ Blocked
 
   -- the state after an event, possible or not
   abbrev pub after : RunState W T R V → Event V → RunState W T R V

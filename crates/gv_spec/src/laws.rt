@@ -1,8 +1,8 @@
 //! Laws of the definitions in this crate. Each function does nothing: its contract is the law.
 
-ghost use Rattle.gv_spec.specs.RunLaws.{ChangesNothing, NoCallBeforeBoot, NoStepOfEnded, EndedStays, CrashDrops, NoFail, UndefinedStays, DefinedThroughout};
+ghost use Rattle.gv_spec.specs.RunLaws.{ChangesNothing, NoCallBeforeBoot, NoStepOfEnded, EndedStays, CrashHappens, CrashDrops, NoFail, UndefinedStays, DefinedThroughout};
 ghost use Rattle.gv_spec.specs.WalkLaws.{WalkTells, ActsOnce, AnsweredActs, NoActAfterBoot, NoWrongReply};
-ghost use Rattle.gv_spec.specs.Examples.{TwoCalls, CrashedCall, Refusals, SecondFailure};
+ghost use Rattle.gv_spec.specs.Examples.{TwoCalls, CrashedCall, WrongPackage, Refusals, SecondFailure};
 ghost use Rattle.gv_spec.specs.Small.{AgreeOps, SmallRefines, SmallRefinesWithoutCrash};
 
 use gv_base::Small;
@@ -27,12 +27,14 @@ pub fn impossible_events<W, T, R, V>()
     ensures undefined { UndefinedStays W T R V }
 {}
 
-/// What stays in a run, for any machine: a thread that has ended or was dropped stays so, a crash
-/// drops every thread, and a run without a fault at its end had no undefined step.
+/// What holds along a run, for any machine: a thread that has ended or was dropped stays so, a crash
+/// is always possible and drops every thread, and a run without a fault at its end had no undefined
+/// step.
 #[tactic(auto, using(crate::proofs::RunLaws::stays_ended, crate::proofs::RunLaws::crash_drops_all, crate::proofs::RunLaws::throughout))]
 pub fn lasting<W, T, R, V>()
     ensures ended { EndedStays W T R V }
-    ensures crash { CrashDrops W T R V }
+    ensures crash { CrashHappens W T R V }
+    ensures drops { CrashDrops W T R V }
     ensures defined { DefinedThroughout W T R V }
 {}
 
@@ -49,11 +51,13 @@ pub fn explanations<F, V>()
 {}
 
 /// Worked runs, computed: two calls at the same time with their explanation, a call that a crash
-/// drops, what refuses moves and where, and a second failure of a disk.
+/// drops, a package that doesn't refine a specification, what refuses moves and where, and a second
+/// failure of a disk.
 #[tactic(auto, using(crate::proofs::Examples::two_calls_run, crate::proofs::Examples::crashed_call_run, crate::proofs::Examples::walk_refusals, crate::proofs::Examples::second_failure))]
 pub fn worked()
     ensures two_calls { TwoCalls }
     ensures crashed_call { CrashedCall }
+    ensures wrong_package { WrongPackage }
     ensures refusals { Refusals }
     ensures second_failure { SecondFailure }
 {}
