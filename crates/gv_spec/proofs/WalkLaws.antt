@@ -187,6 +187,9 @@ module _ {F V : Type 0} (atomic : Specification F V) where
   boot_table : (w u : WalkState F V) (n : ℕ) → Walked atomic w u (move.Other entry.Boot) → u.table n ≡ dropped (w.table n)
   boot_table w u n (by_boot t) = ap (λ z. z n) t
 
+  boot_rank : (w u : WalkState F V) (n : ℕ) → Walked atomic w u (move.Other entry.Boot) → 1 ≤ rank (w.table n) → rank (u.table n) ≡ 3
+  boot_rank w u n step h = ap rank (boot_table w u n step) ∙ past_boot (w.table n) h
+
   answer_table : (w u : WalkState F V) (n : ℕ) (reply : V) → Walked atomic w u (move.Other (entry.Answer n reply)) → w.table n ≡ Acted reply
   answer_table w u n reply (by_answer k r e t) = e
 
@@ -216,7 +219,7 @@ module _ {F V : Type 0} (atomic : Specification F V) where
       let u = split t.next v middle (move.Other entry.Boot ∷ (later ++ move.Act n ∷ rest)) t.rest in
       let more = grows t.next u.mid middle n u.front in
       let b = taken u.mid v (move.Other entry.Boot) (later ++ move.Act n ∷ rest) u.back in
-      let gone : rank (b.next.table n) ≡ 3 = ap rank (boot_table u.mid b.next n b.first) ∙ past_boot (u.mid.table n) (omega (arith, started, more)) in
+      let gone = boot_rank u.mid b.next n b.first (omega (arith, started, more)) in
       let l = split b.next v later (move.Act n ∷ rest) b.rest in
       let still = grows b.next l.mid later n l.front in
       let a = taken l.mid v (move.Act n) rest l.back in
@@ -389,19 +392,21 @@ module _ {F V : Type 0} (atomic : Specification F V) where
     parts : ms ≡ before ++ move.Other e ∷ since
     left : entries_of since ≡ rest
 
+  cut_later : (m : Move V) (ms : List (Move V)) (front later : List (Entry V)) (e : Entry V) (rest : List (Entry V)) → Cut ms front e rest → Cut (m ∷ ms) later e rest
+  cut_later m ms front later e rest c = record { before = m ∷ c.before; since = c.since; parts = ap (λ z. m ∷ z) c.parts; left = c.left }
+
+  tails_same : (m f : Entry V) (xs ys : List (Entry V)) → m ∷ xs ≡ f ∷ ys → xs ≡ ys
+  tails_same m f xs ys h = cc
+
   -- where the moves stand whose entries are these
   cut : (ms : List (Move V)) (front : List (Entry V)) (e : Entry V) (rest : List (Entry V)) → entries_of ms ≡ front ++ e ∷ rest → Cut ms front e rest
   cut [] [] e rest h = absurd cc
   cut [] (f ∷ front) e rest h = absurd cc
-  cut (move.Act n ∷ ms) front e rest h = (let c = cut ms front e rest h in record { before = move.Act n ∷ c.before; since = c.since; parts = ap (λ z. move.Act n ∷ z) c.parts; left = c.left })
+  cut (move.Act n ∷ ms) front e rest h = cut_later (move.Act n) ms front front e rest (cut ms front e rest h)
   cut (move.Other m ∷ ms) [] e rest h = (
       let same : m ≡ e = cc in
-      let left : entries_of ms ≡ rest = cc in
-      record { before = []; since = ms; parts = ap (λ z. move.Other z ∷ ms) same; left = left })
-  cut (move.Other m ∷ ms) (f ∷ front) e rest h = (
-      let left : entries_of ms ≡ front ++ e ∷ rest = cc in
-      let c = cut ms front e rest left in
-      record { before = move.Other m ∷ c.before; since = c.since; parts = ap (λ z. move.Other m ∷ z) c.parts; left = c.left })
+      record { before = []; since = ms; parts = ap (λ z. move.Other z ∷ ms) same; left = tails_same m e (entries_of ms) rest h })
+  cut (move.Other m ∷ ms) (f ∷ front) e rest h = cut_later (move.Other m) ms front (f ∷ front) e rest (cut ms front e rest (tails_same m f (entries_of ms) (front ++ e ∷ rest) h))
 
   not_called_and_acted : (c : Standing V) (op : ℕ) (args : List V) (reply : V) → c ≡ Called op args → c ≡ Acted reply → ⊥
   not_called_and_acted c op args reply e h = (let d = sym e ∙ h in cc)
