@@ -10,7 +10,7 @@ use Rattle.gv_spec.specs.Entry.{Entry}
 use Rattle.gv_spec.specs.Move.{Move}
 use Rattle.gv_spec.specs.Machine.{Answer, Next, Blocked, Stepped, GoesOn, Returns, Machine}
 use Rattle.gv_spec.specs.Specification.{Specification}
-use Rattle.gv_spec.specs.Runs.{Role, Recovers, Answers, Helps, RunState, living, call_started, thread_ended, booted, answered, disk_failed, unless_undefined, settled, first_state, crash_made, step_taken, step_made, call_made, event_made, after, history_of}
+use Rattle.gv_spec.specs.Runs.{Role, Recovers, Answers, Spawned, RunState, living, call_started, thread_ended, booted, answered, disk_failed, unless_undefined, settled, first_state, crash_made, step_taken, step_made, call_made, event_made, after, history_of}
 use Rattle.gv_spec.specs.Walks.{NeverCalled, Called, Acted, Answered, WalkState, entered, dropped, first_walk, walk_moved, walk_from}
 use Rattle.gv_spec.specs.Refines.{Refines}
 use Rattle.gv_spec.proofs.Threads.{set_cases, push_cases, none_stands, stands, some_same}
@@ -29,10 +29,10 @@ thread_same {T} role role' t t' e =
 not_answering : (n : ℕ) → Recovers ≡ Answers n → ⊥
 not_answering n e = cc
 
-not_helping : (n : ℕ) → Answers n ≡ Helps → ⊥
-not_helping n e = cc
+not_spawned : (n : ℕ) → Answers n ≡ Spawned → ⊥
+not_spawned n e = cc
 
-not_both : Recovers ≡ Helps → ⊥
+not_both : Recovers ≡ Spawned → ⊥
 not_both e = cc
 
 numbers_same : (n m : ℕ) → Answers n ≡ Answers m → n ≡ m
@@ -86,7 +86,7 @@ module _ {W T R F V : Type 0} (machine : Machine W T R V) (atomic : Specificatio
     apart : (k l n : ℕ) (t u : T) → There s.threads k (Answers n) t → There s.threads l (Answers n) u → k ≡ l
     recovering : (k : ℕ) (t : T) → There s.threads k Recovers t → (s.receiver ≡ None) × Recovering t
     alone : (k l : ℕ) (t u : T) → There s.threads k Recovers t → There s.threads l Recovers u → k ≡ l
-    unhelped : (k : ℕ) (t : T) → There s.threads k Helps t → ⊥
+    unspawned : (k : ℕ) (t : T) → There s.threads k Spawned t → ⊥
 
   module _ (at_once : AnswersAtOnce) where
     one_thread : (k : ℕ) (role : Role) (t : T) → There (Some (Recovers, machine.recovery) ∷ []) k role t → (k ≡ 0) × (Recovers ≡ role) × (machine.recovery ≡ t)
@@ -105,7 +105,7 @@ module _ {W T R F V : Type 0} (machine : Machine W T R V) (atomic : Specificatio
       apart = λ k l n t u e d. absurd (not_answering n (one_thread k (Answers n) t e).1);
       recovering = λ k t e. (refl, subst Recovering (one_thread k Recovers t e).2 at_once.recovers);
       alone = λ k l t u e d. (one_thread k Recovers t e).0 ∙ sym (one_thread l Recovers u d).0;
-      unhelped = λ k t e. not_both (one_thread k Helps t e).1;
+      unspawned = λ k t e. not_both (one_thread k Spawned t e).1;
     }
 
     -- a call starts
@@ -124,7 +124,7 @@ module _ {W T R F V : Type 0} (machine : Machine W T R V) (atomic : Specificatio
           apart = λ k l n u x e d. one k l n u x (pushed k (Answers n) u e) (pushed l (Answers n) x d);
           recovering = λ k u e. v.recovering k u (still k Recovers u (λ n h. not_answering n (sym h)) e);
           alone = λ k l u x e d. v.alone k l u x (still k Recovers u (λ n h. not_answering n (sym h)) e) (still l Recovers x (λ n h. not_answering n (sym h)) d);
-          unhelped = λ k u e. v.unhelped k u (still k Helps u (λ n h. not_helping n h) e);
+          unspawned = λ k u e. v.unspawned k u (still k Spawned u (λ n h. not_spawned n h) e);
         }
       where
         pushed : (k : ℕ) (role : Role) (u : T) → There (s.threads ++ Some (Answers (suc s.calls), t) ∷ []) k role u → (There s.threads k role u) ⊎ ((k ≡ length s.threads) × (Answers (suc s.calls) ≡ role) × (t ≡ u))
@@ -175,7 +175,7 @@ module _ {W T R F V : Type 0} (machine : Machine W T R V) (atomic : Specificatio
       apart = λ k l n x y e d. v.apart k l n x y (call k n x e) (call l n y d);
       recovering = λ k x e. elim (was k Recovers x e) [ inl p ↦ ((v.recovering i t place).0, subst Recovering p.2 recovers) | inr p ↦ v.recovering k x p.1 ];
       alone = λ k l x y e d. only k x e ∙ sym (only l y d);
-      unhelped = λ k x e. elim (was k Helps x e) [ inl p ↦ not_both p.1 | inr p ↦ v.unhelped k x p.1 ];
+      unspawned = λ k x e. elim (was k Spawned x e) [ inl p ↦ not_both p.1 | inr p ↦ v.unspawned k x p.1 ];
     }
       where
         was : (k : ℕ) (role : Role) (x : T) → There (slice_set s.threads i (here Recovers u) ++ []) k role x → ((k ≡ i) × (Recovers ≡ role) × (u ≡ x)) ⊎ ((k ≢ i) × There s.threads k role x)
@@ -204,7 +204,7 @@ module _ {W T R F V : Type 0} (machine : Machine W T R V) (atomic : Specificatio
       apart = λ k l n x y e d. absurd (no_call k n x e);
       recovering = λ k x e. absurd (no_other k x e);
       alone = λ k l x y e d. absurd (no_other k x e);
-      unhelped = λ k x e. v.unhelped k x (others s i k Helps x e).1;
+      unspawned = λ k x e. v.unspawned k x (others s i k Spawned x e).1;
     }
       where
         no_call : (k n : ℕ) (x : T) → There (slice_set s.threads i None) k (Answers n) x → ⊥
@@ -240,7 +240,7 @@ module _ {W T R F V : Type 0} (machine : Machine W T R V) (atomic : Specificatio
           apart = λ k l m x y d c. v.apart k l m x y (others s i k (Answers m) x d).1 (others s i l (Answers m) y c).1;
           recovering = λ k x d. v.recovering k x (others s i k Recovers x d).1;
           alone = λ k l x y d c. v.alone k l x y (others s i k Recovers x d).1 (others s i l Recovers y c).1;
-          unhelped = λ k x d. v.unhelped k x (others s i k Helps x d).1;
+          unspawned = λ k x d. v.unspawned k x (others s i k Spawned x d).1;
         }
 
     -- a crash drops all threads, whatever ran
@@ -256,7 +256,7 @@ module _ {W T R F V : Type 0} (machine : Machine W T R V) (atomic : Specificatio
       apart = λ k l n x y e d. absurd (not_answering n (new k (Answers n) x e).1);
       recovering = λ k x e. (refl, subst Recovering (new k Recovers x e).2 at_once.recovers);
       alone = λ k l x y e d. (new k Recovers x e).0 ∙ sym (new l Recovers y d).0;
-      unhelped = λ k x e. not_both (new k Helps x e).1;
+      unspawned = λ k x e. not_both (new k Spawned x e).1;
     }
       where
         fit : (o : Option R) → Fits s.world (fields_now o v.now.fields) → Fits (machine.crashed s.world) (atomic.crashed v.now.fields)
@@ -282,7 +282,7 @@ module _ {W T R F V : Type 0} (machine : Machine W T R V) (atomic : Specificatio
       apart = v.apart;
       recovering = v.recovering;
       alone = v.alone;
-      unhelped = v.unhelped;
+      unspawned = v.unspawned;
     }
 
     inv_recovery_step : (s : RunState W T R V) (i : ℕ) (t : T) → There s.threads i Recovers t → (v : Inv s) → (a : Answer (Stepped W T R)) → RecoveryStep (atomic.crashed v.now.fields) a
@@ -312,7 +312,7 @@ module _ {W T R F V : Type 0} (machine : Machine W T R V) (atomic : Specificatio
         let place : There s.threads i (Answers n) t = stands (slice_get s.threads i) (Answers n, t) e in
         let q = v.answering i n t place in
         inv_call_step s i n t q.0 q.1 q.2 place v q.3 q.4 q.5 (machine.stepped t s.world) (q.6 s.world v.now.fields (subst (λ o. Fits s.world (fields_now o v.now.fields)) q.5 v.fits))
-    inv_step s i (Some (Helps, t)) e v = absurd (v.unhelped i t (stands (slice_get s.threads i) (Helps, t) e))
+    inv_step s i (Some (Spawned, t)) e v = absurd (v.unspawned i t (stands (slice_get s.threads i) (Spawned, t) e))
 
     inv_event : (s : RunState W T R V) (e : Event V) → Inv s → Inv (settled s (event_made machine atomic.allows s e))
     inv_event s (event.Call op args) v = go s.receiver refl (atomic.allows op args)

@@ -4,7 +4,7 @@ use Rattle.gv_base.specs.declared.reason.Reason.{Reason}
 use Rattle.gv_spec.specs.Event as event
 use Rattle.gv_spec.specs.Event.{Event}
 use Rattle.gv_spec.specs.Machine.{Answer, Next, Blocked, Undefined, Stepped, GoesOn, Returns, Machine}
-use Rattle.gv_spec.specs.Runs.{Role, Recovers, Answers, Helps, RunState, living, replaced, call_started, thread_ended, answered, disk_failed, unless_undefined, settled, first_state, crash_made, frame_returned, step_taken, step_made, call_made, event_made, outcome_of, after, run_of}
+use Rattle.gv_spec.specs.Runs.{Role, Recovers, Answers, Spawned, RunState, living, replaced, call_started, thread_ended, answered, disk_failed, unless_undefined, settled, first_state, crash_made, frame_returned, step_taken, step_made, call_made, event_made, outcome_of, after, run_of}
 use Rattle.gv_spec.specs.RunLaws.{ChangesNothing, NoCallBeforeBoot, NoStepOfEnded, EndedStays, CrashHappens, CrashDrops, NoFail, UndefinedStays, DefinedThroughout}
 
 -- ---- threads
@@ -74,7 +74,7 @@ module _ {W T R V : Type 0} (machine : Machine W T R V) (allows : ℕ → List V
   step_stays : (s : RunState W T R V) (m number : ℕ) (role : Role) (t : T) → living s.threads m ≡ Some (role, t) → (a : Answer (Stepped W T R))
       → number ≤ length s.threads → living s.threads number ≡ None → living (settled s (step_taken machine s m role a)).threads number ≡ None
   step_stays s m number role t e (Next (GoesOn w u started)) h gone =
-      living_append (replaced s.threads m (Some (role, u))) (map (λ other. Some (Helps, other)) started) number (let l = length_replaced s.threads m (Some (role, u)) in omega (arith, h, l))
+      living_append (replaced s.threads m (Some (role, u))) (map (λ other. Some (Spawned, other)) started) number (let l = length_replaced s.threads m (Some (role, u)) in omega (arith, h, l))
       ∙ living_replaced s.threads m number (role, t) (Some (role, u)) e gone
   step_stays s m number role t e (Next (Returns w r)) h gone = go role
     where
@@ -88,7 +88,7 @@ module _ {W T R V : Type 0} (machine : Machine W T R V) (allows : ℕ → List V
       go : (as_role : Role) → living (settled s (frame_returned machine (thread_ended s m w) as_role r)).threads number ≡ None
       go Recovers = left
       go (Answers n) = answers n (machine.reply r w)
-      go Helps = left
+      go Spawned = left
   step_stays s m number role t e Blocked h gone = gone
   step_stays s m number role t e (Undefined reason) h gone = gone
 

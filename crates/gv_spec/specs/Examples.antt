@@ -1,5 +1,5 @@
 -- Worked runs and walks: the package with the one operation `Add(a, b)`, which returns `a + b`.
-use Rattle.std.specs.Prelude.{◌≡◌, ◌-◌, ◌^◌, ℕ, true, false, List, [], ◌∷◌, take, Option, Some, None, Result, Ok, Err, IsTrue, is_ok, nat_lt, if◌then◌else◌, codes}
+use Rattle.std.specs.Prelude.{◌≡◌, ◌-◌, ◌^◌, ℕ, true, false, List, [], ◌∷◌, map, length, take, Option, Some, None, Result, Ok, Err, IsTrue, is_ok, nat_lt, if◌then◌else◌, codes}
 use Rattle.gv_base.specs.declared.small.Small.{Small}
 use Rattle.gv_base.specs.declared.small.SmallOp.{SmallOp}
 use Rattle.gv_base.specs.declared.small.Part.TheVariants as part
@@ -11,7 +11,7 @@ use Rattle.gv_spec.specs.Entry.{Entry}
 use Rattle.gv_spec.specs.Move.{Move}
 use Rattle.gv_spec.specs.Machine.{Answer, Next, Blocked, Returns, Machine}
 use Rattle.gv_spec.specs.Runs.{Answers, RunState, outcome_of, run_of}
-use Rattle.gv_spec.specs.Walks.{WalkState, WalkFault, WalkCause, Repeated, NotCalled, ActedAlready, NotActed, WrongReply, Order, Missing, Explains, walk}
+use Rattle.gv_spec.specs.Walks.{Standing, NeverCalled, Acted, Answered, WalkState, WalkFault, WalkCause, Repeated, NotCalled, ActedAlready, NotActed, WrongReply, Order, Missing, first_walk, walk_from, Explains, walk}
 use Rattle.gv_spec.specs.Small.{SmallThread, Sums, SmallResult, Reference, machine_of, specification_of, SmallRefinesWithoutCrash}
 
 abbrev pub add_op : SmallOp
@@ -55,6 +55,18 @@ abbrev pub two_calls_moves : List (Move ℕ)
 two_calls_moves = move.Other entry.Boot ∷ move.Other (entry.Call 1 0 (1 ∷ 2 ∷ [])) ∷ move.Act 1 ∷ move.Other (entry.Call 2 0 (3 ∷ 4 ∷ []))
     ∷ move.Act 2 ∷ move.Other (entry.Answer 2 7) ∷ move.Other (entry.Answer 1 3) ∷ []
 
+-- how many entries the history has after so many of the events
+abbrev pub entries_after : ℕ → ℕ
+entries_after count = length (adder_run (take count two_calls)).history
+
+abbrev pub standing_in : Result (WalkState (Unit {0}) ℕ) WalkCause → ℕ → Standing ℕ
+standing_in (Ok w) n = w.table n
+standing_in (Err cause) n = NeverCalled
+
+-- where call n stands after so many of the moves
+abbrev pub standing_after : ℕ → ℕ → Standing ℕ
+standing_after count n = standing_in (walk_from (specification_of adder) (first_walk (specification_of adder)) (take count two_calls_moves)) n
+
 pub record TwoCalls : Type 0 where
   pub history : (adder_run two_calls).history ≡ two_calls_history
   pub defined : (adder_run two_calls).fault ≡ None
@@ -63,6 +75,11 @@ pub record TwoCalls : Type 0 where
   pub under_way : (adder_run (take 5 two_calls)).threads ≡ None ∷ Some (Answers 1, Sums add_op (1 ∷ 2 ∷ [])) ∷ Some (Answers 2, Sums add_op (3 ∷ 4 ∷ [])) ∷ []
   pub all_ended : (adder_run two_calls).threads ≡ None ∷ None ∷ None ∷ []
   pub explained : IsTrue (is_ok (adder_walk two_calls_history two_calls_moves))
+  pub growing : map entries_after (0 ∷ 1 ∷ 2 ∷ 3 ∷ 4 ∷ 5 ∷ 6 ∷ 7 ∷ 8 ∷ 9 ∷ 10 ∷ []) ≡ 0 ∷ 0 ∷ 0 ∷ 1 ∷ 2 ∷ 3 ∷ 3 ∷ 4 ∷ 4 ∷ 5 ∷ 5 ∷ []
+  -- the walk after the two acts, and after all moves
+  pub first_acted : standing_after 5 1 ≡ Acted 3
+  pub second_acted : standing_after 5 2 ≡ Acted 7
+  pub first_answered : standing_after 7 1 ≡ Answered
   -- what isn't possible, each time after the events before it
   pub before_boot : adder_outcome [] (add 1 2) ≡ Blocked
   pub one_argument : adder_outcome (take 5 two_calls) (event.Call 0 (5 ∷ [])) ≡ Blocked

@@ -13,7 +13,7 @@ pub data Role : Type 0 where
   -- it answers the call under this number
   Answers : ℕ → Role
   -- another thread started it
-  Helps : Role
+  Spawned : Role
 
 pub record RunState (W T R V : Type 0) : Type 0 where
   pub world : W
@@ -108,13 +108,13 @@ module _ {W T R V : Type 0} (machine : Machine W T R V) where
   abbrev pub frame_returned : RunState W T R V → Role → R → Answer (RunState W T R V)
   frame_returned s Recovers result = Next (booted s result)
   frame_returned s (Answers n) result = answered s n (machine.reply result s.world)
-  frame_returned s Helps result = Next s
+  frame_returned s Spawned result = Next s
 
   -- what a thread's step makes of the run; threads that it started get the next numbers
   abbrev pub step_taken : RunState W T R V → ℕ → Role → Answer (Stepped W T R) → Answer (RunState W T R V)
   step_taken s number role (Next (GoesOn world thread started)) = Next (record s {
     world = world;
-    threads = replaced s.threads number (Some (role, thread)) ++ map (λ other. Some (Helps, other)) started;
+    threads = replaced s.threads number (Some (role, thread)) ++ map (λ other. Some (Spawned, other)) started;
   })
   step_taken s number role (Next (Returns world result)) = frame_returned (thread_ended s number world) role result
   step_taken s number role Blocked = Blocked

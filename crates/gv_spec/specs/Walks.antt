@@ -21,13 +21,21 @@ pub record WalkState (F V : Type 0) : Type 0 where
   pub fields : F
   pub table : ℕ → Standing V
 
+-- why a move is refused
 pub data WalkCause : Type 0 where
+  -- a call under a number that was used before
   Repeated : WalkCause
+  -- an act or an answer of a call that is not in the table
   NotCalled : WalkCause
+  -- a second act
   ActedAlready : WalkCause
+  -- an answer before the act
   NotActed : WalkCause
+  -- an answer that isn't the reply of the act
   WrongReply : WalkCause
+  -- an entry that isn't the next one of the history
   Order : WalkCause
+  -- no move is left, and the history goes on
   Missing : WalkCause
 
 -- the first move that is refused, counted from 1, and why
