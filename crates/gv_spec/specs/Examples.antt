@@ -10,9 +10,9 @@ use Rattle.gv_spec.specs.Event.{Event}
 use Rattle.gv_spec.specs.Entry.{Entry}
 use Rattle.gv_spec.specs.Move.{Move}
 use Rattle.gv_spec.specs.Machine.{Answer, Next, Blocked, Returns, Machine}
-use Rattle.gv_spec.specs.Runs.{Answers, RunState, outcome_of, run_of}
+use Rattle.gv_spec.specs.Runs.{Recovers, Answers, RunState, outcome_of, run_of}
 use Rattle.gv_spec.specs.Walks.{Standing, NeverCalled, Acted, Answered, WalkState, WalkFault, WalkCause, Repeated, NotCalled, ActedAlready, NotActed, WrongReply, Order, Missing, first_walk, walk_from, Explains, walk}
-use Rattle.gv_spec.specs.Small.{SmallThread, Sums, SmallResult, Reference, machine_of, specification_of, SmallRefinesWithoutCrash}
+use Rattle.gv_spec.specs.Small.{SmallThread, Hands, Sums, SmallResult, Reference, machine_of, specification_of, SmallRefinesWithoutCrash}
 
 abbrev pub add_op : SmallOp
 add_op = record {
@@ -55,6 +55,11 @@ abbrev pub two_calls_moves : List (Move ℕ)
 two_calls_moves = move.Other entry.Boot ∷ move.Other (entry.Call 1 0 (1 ∷ 2 ∷ [])) ∷ move.Act 1 ∷ move.Other (entry.Call 2 0 (3 ∷ 4 ∷ []))
     ∷ move.Act 2 ∷ move.Other (entry.Answer 2 7) ∷ move.Other (entry.Answer 1 3) ∷ []
 
+-- each call acts just before its answer
+abbrev pub two_calls_late_moves : List (Move ℕ)
+two_calls_late_moves = move.Other entry.Boot ∷ move.Other (entry.Call 1 0 (1 ∷ 2 ∷ [])) ∷ move.Other (entry.Call 2 0 (3 ∷ 4 ∷ []))
+    ∷ move.Act 2 ∷ move.Other (entry.Answer 2 7) ∷ move.Act 1 ∷ move.Other (entry.Answer 1 3) ∷ []
+
 -- how many entries the history has after so many of the events
 abbrev pub entries_after : ℕ → ℕ
 entries_after count = length (adder_run (take count two_calls)).history
@@ -70,11 +75,13 @@ standing_after count n = standing_in (walk_from (specification_of adder) (first_
 pub record TwoCalls : Type 0 where
   pub history : (adder_run two_calls).history ≡ two_calls_history
   pub defined : (adder_run two_calls).fault ≡ None
-  -- the boot hands on the object that recovery made, and both calls are under way after their starts
+  -- recovery makes its object, the boot hands it on, and both calls are under way after their starts
+  pub made : (adder_run (take 2 two_calls)).threads ≡ Some (Recovers, Hands 1) ∷ []
   pub booted : (adder_run (take 3 two_calls)).receiver ≡ Some (Reference 1)
   pub under_way : (adder_run (take 5 two_calls)).threads ≡ None ∷ Some (Answers 1, Sums add_op (1 ∷ 2 ∷ [])) ∷ Some (Answers 2, Sums add_op (3 ∷ 4 ∷ [])) ∷ []
   pub all_ended : (adder_run two_calls).threads ≡ None ∷ None ∷ None ∷ []
   pub explained : IsTrue (is_ok (adder_walk two_calls_history two_calls_moves))
+  pub explained_late : IsTrue (is_ok (adder_walk two_calls_history two_calls_late_moves))
   pub growing : map entries_after (0 ∷ 1 ∷ 2 ∷ 3 ∷ 4 ∷ 5 ∷ 6 ∷ 7 ∷ 8 ∷ 9 ∷ 10 ∷ []) ≡ 0 ∷ 0 ∷ 0 ∷ 1 ∷ 2 ∷ 3 ∷ 3 ∷ 4 ∷ 4 ∷ 5 ∷ 5 ∷ []
   -- the walk after the two acts, and after all moves
   pub first_acted : standing_after 5 1 ≡ Acted 3

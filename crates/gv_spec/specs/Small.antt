@@ -112,3 +112,12 @@ SmallRefines program small = Refines (machine_of program) (specification_of smal
 
 abbrev pub SmallRefinesWithoutCrash : Small → Small → Type 0
 SmallRefinesWithoutCrash program small = RefinesWithoutCrash (machine_of program) (specification_of small)
+
+-- where both have an operation that takes the arguments, the two Sums have one value
+abbrev pub SameReplies : Small → Small → Type 0
+SameReplies program small = (number : ℕ) (args : List ℕ) (op other : SmallOp)
+    → op_taking program number args ≡ Some op → op_taking small number args ≡ Some other → sum_value op args ≡ sum_value other args
+
+-- a package that replies otherwise doesn't refine the specification, not even without crashes
+abbrev pub RefinesOnlySameReplies : Type 0
+RefinesOnlySameReplies = (program small : Small) → SmallRefinesWithoutCrash program small → SameReplies program small

@@ -3,7 +3,7 @@
 ghost use Rattle.gv_spec.specs.RunLaws.{ChangesNothing, NoCallBeforeBoot, NoStepOfEnded, EndedStays, CrashHappens, CrashDrops, NoFail, UndefinedStays, DefinedThroughout};
 ghost use Rattle.gv_spec.specs.WalkLaws.{WalkTells, ActsOnce, AnsweredActs, NoActAfterBoot, NoWrongReply};
 ghost use Rattle.gv_spec.specs.Examples.{TwoCalls, CrashedCall, WrongPackage, Refusals, SecondFailure};
-ghost use Rattle.gv_spec.specs.Small.{AgreeOps, SmallRefines, SmallRefinesWithoutCrash};
+ghost use Rattle.gv_spec.specs.Small.{AgreeOps, SmallRefines, SmallRefinesWithoutCrash, RefinesOnlySameReplies};
 
 use gv_base::Small;
 
@@ -13,6 +13,13 @@ pub fn small_refines(program: &Small, small: &Small)
     requires { AgreeOps program.now small.now }
     ensures every { SmallRefines program.now small.now }
     ensures without_crash { SmallRefinesWithoutCrash program.now small.now }
+{}
+
+/// A package of the small form that refines a specification of the small form, if only without
+/// crashes, gives its replies.
+#[tactic(auto, using(crate::proofs::Examples::refines_only_same))]
+pub fn small_replies()
+    ensures { RefinesOnlySameReplies }
 {}
 
 /// What no event changes, for any machine: an event that isn't possible changes nothing, and these

@@ -3,4 +3,4 @@
 
 mod laws;
 
-pub use laws::{explanations, impossible_events, lasting, small_refines, worked};
+pub use laws::{explanations, impossible_events, lasting, small_refines, small_replies, worked};
