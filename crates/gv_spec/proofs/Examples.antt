@@ -3,7 +3,7 @@ use Rattle.std.proofs.Common.{◌≡◌, ◌-◌, ◌^◌, ℕ, Bool, true, fals
 use Rattle.gv_spec.specs.Event as event
 use Rattle.gv_spec.specs.Event.{Event}
 use Rattle.gv_spec.specs.Entry as entry
-use Rattle.gv_spec.specs.Examples.{TwoCalls, CrashedCall, WrongPackage, Refusals, SecondFailure, adder}
+use Rattle.gv_spec.specs.Examples.{TwoCalls, CrashedCall, SumValues, StartedThreads, WrongPackage, Refusals, SecondFailure, adder}
 use Rattle.gv_base.specs.declared.small.Small.{Small}
 use Rattle.gv_base.specs.declared.small.SmallOp.{SmallOp}
 use Rattle.gv_spec.specs.Runs.{RunState, call_started, call_made, settled, event_made, after, run_of, history_of}
@@ -54,6 +54,21 @@ walk_refusals = record {
   where
     four : ◌≡◌ {A = ℕ} 4 3 → ⊥
     four e = omega (arith, e)
+
+pub sum_values : SumValues
+sum_values = record {
+  sum = refl;
+  around = refl;
+  difference = refl;
+  below_zero = refl;
+  nothing = refl;
+  number = refl;
+  from_left = refl;
+  alone = refl;
+}
+
+pub started_threads : StartedThreads
+started_threads = record { second = refl; no_boot = refl; history = refl; ended = refl }
 
 pub second_failure : SecondFailure
 second_failure = record { no_third_disk = refl; second = refl; after_crash = refl }

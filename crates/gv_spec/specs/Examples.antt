@@ -2,6 +2,8 @@
 use Rattle.std.specs.Prelude.{◌≡◌, ◌-◌, ◌^◌, ℕ, true, false, List, [], ◌∷◌, map, length, take, Option, Some, None, Result, Ok, Err, IsTrue, is_ok, nat_lt, if◌then◌else◌, codes}
 use Rattle.gv_base.specs.declared.small.Small.{Small}
 use Rattle.gv_base.specs.declared.small.SmallOp.{SmallOp}
+use Rattle.gv_base.specs.declared.small.Turn.{Turn}
+use Rattle.gv_base.specs.declared.small.Part.{Part}
 use Rattle.gv_base.specs.declared.small.Part.TheVariants as part
 use Rattle.gv_spec.specs.Event as event
 use Rattle.gv_spec.specs.Entry as entry
@@ -9,10 +11,10 @@ use Rattle.gv_spec.specs.Move as move
 use Rattle.gv_spec.specs.Event.{Event}
 use Rattle.gv_spec.specs.Entry.{Entry}
 use Rattle.gv_spec.specs.Move.{Move}
-use Rattle.gv_spec.specs.Machine.{Answer, Next, Blocked, Returns, Machine}
-use Rattle.gv_spec.specs.Runs.{Recovers, Answers, RunState, outcome_of, run_of}
+use Rattle.gv_spec.specs.Machine.{Answer, Next, Blocked, Stepped, GoesOn, Returns, Machine}
+use Rattle.gv_spec.specs.Runs.{Recovers, Answers, Spawned, RunState, outcome_of, run_of}
 use Rattle.gv_spec.specs.Walks.{Standing, NeverCalled, Acted, Answered, WalkState, WalkFault, WalkCause, Repeated, NotCalled, ActedAlready, NotActed, WrongReply, Order, Missing, first_walk, walk_from, Explains, walk}
-use Rattle.gv_spec.specs.Small.{SmallThread, Hands, Sums, SmallResult, Reference, machine_of, specification_of, SmallRefinesWithoutCrash}
+use Rattle.gv_spec.specs.Small.{sum_value, SmallThread, Hands, Sums, SmallResult, Reference, machine_of, specification_of, SmallRefinesWithoutCrash}
 
 abbrev pub add_op : SmallOp
 add_op = record {
@@ -105,6 +107,29 @@ pub record CrashedCall : Type 0 where
   pub history : (adder_run crashed_call).history ≡ entry.Boot ∷ entry.Call 1 0 (1 ∷ 2 ∷ []) ∷ entry.Crash ∷ entry.Boot ∷ entry.Call 2 0 ((2 ^ 64 - 1) ∷ 1 ∷ []) ∷ entry.Answer 2 0 ∷ []
   pub was_dropped : adder_outcome (take 4 crashed_call) (event.Step 2) ≡ Blocked
 
+-- ---- Sums
+
+-- the value of a Sum of two parts that begins with the first of two arguments
+abbrev pub two_parts : Turn → ℕ → ℕ → ℕ
+two_parts turn x y = sum_value (record add_op { rest = turn ∷ [] }) (x ∷ y ∷ [])
+
+abbrev pub plus : Part → Turn
+plus value = record { minus = false; part = value }
+
+abbrev pub minus : Part → Turn
+minus value = record { minus = true; part = value }
+
+pub record SumValues : Type 0 where
+  pub sum : two_parts (plus (part.Param 1)) 2 3 ≡ 5
+  pub around : two_parts (plus (part.Param 1)) (2 ^ 64 - 1) 3 ≡ 2
+  pub difference : two_parts (minus (part.Param 1)) 5 3 ≡ 2
+  pub below_zero : two_parts (minus (part.Param 1)) 3 5 ≡ 2 ^ 64 - 2
+  pub nothing : two_parts (minus (part.Param 0)) 5 3 ≡ 0
+  pub number : two_parts (minus (part.Number 3)) 10 0 ≡ 7
+  -- `10 - a + b - 1`, from the left
+  pub from_left : sum_value (record add_op { first = part.Number 10; rest = minus (part.Param 0) ∷ plus (part.Param 1) ∷ minus (part.Number 1) ∷ [] }) (4 ∷ 7 ∷ []) ≡ 12
+  pub alone : sum_value (record add_op { first = part.Param 1; rest = [] }) (4 ∷ 7 ∷ []) ≡ 7
+
 -- ---- a package that does something else
 
 -- the specification of a sum isn't refined by a difference
@@ -140,6 +165,42 @@ pub record Refusals : Type 0 where
       (move.Other entry.Boot ∷ move.Other (entry.Call 1 0 (1 ∷ 2 ∷ [])) ∷ move.Other entry.Crash ∷ move.Act 1 ∷ move.Other entry.Boot ∷ [])))
   -- no moves at all explain the wrong answer
   pub none_explains : (moves : List (Move ℕ)) → Explains (specification_of adder) moves (entry.Boot ∷ entry.Call 1 0 (1 ∷ 2 ∷ []) ∷ entry.Answer 1 4 ∷ []) → ⊥
+
+-- ---- threads that start threads
+
+-- a thread that starts another one with nothing to do, or returns at once
+pub data Starter : Type 0 where
+  Starts : Starter
+  Ends : Starter
+
+abbrev pub starter_stepped : Starter → Unit {0} → Answer (Stepped (Unit {0}) Starter (Unit {0}))
+starter_stepped Starts world = Next (GoesOn world Ends (Ends ∷ []))
+starter_stepped Ends world = Next (Returns world tt)
+
+-- recovery and each call start a thread, then they return; a call replies 5
+abbrev pub starters : Machine (Unit {0}) Starter (Unit {0}) ℕ
+starters = record {
+  first_world = tt;
+  recovery = Starts;
+  stepped = starter_stepped;
+  called = λ receiver op args world. Some (world, Starts);
+  reply = λ result world. Ok 5;
+  crashed = λ world. world;
+  failed = λ disk world. None;
+}
+
+abbrev pub starters_run : List (Event ℕ) → RunState (Unit {0}) Starter (Unit {0}) ℕ
+starters_run events = run_of starters (λ op args. true) events
+
+pub record StartedThreads : Type 0 where
+  -- thread 1 starts thread 2, which ends without a boot
+  pub second : (starters_run (event.Step 1 ∷ [])).threads ≡ Some (Recovers, Ends) ∷ Some (Spawned, Ends) ∷ []
+  pub no_boot : (starters_run (event.Step 1 ∷ event.Step 2 ∷ [])).receiver ≡ None
+  -- a call in thread 3 starts thread 4, which ends after the call has answered and tells nothing
+  pub history : (starters_run (event.Step 1 ∷ event.Step 1 ∷ event.Step 2 ∷ event.Call 0 [] ∷ event.Step 3 ∷ event.Step 3 ∷ event.Step 4 ∷ [])).history
+      ≡ entry.Boot ∷ entry.Call 1 0 [] ∷ entry.Answer 1 5 ∷ []
+  pub ended : (starters_run (event.Step 1 ∷ event.Step 1 ∷ event.Step 2 ∷ event.Call 0 [] ∷ event.Step 3 ∷ event.Step 3 ∷ event.Step 4 ∷ [])).threads
+      ≡ None ∷ None ∷ None ∷ None ∷ []
 
 -- ---- two disks, of which one may fail
 

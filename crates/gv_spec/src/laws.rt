@@ -2,7 +2,7 @@
 
 ghost use Rattle.gv_spec.specs.RunLaws.{ChangesNothing, NoCallBeforeBoot, NoStepOfEnded, EndedStays, CrashHappens, CrashDrops, NoFail, UndefinedStays, DefinedThroughout};
 ghost use Rattle.gv_spec.specs.WalkLaws.{WalkTells, ActsOnce, AnsweredActs, NoActAfterBoot, NoWrongReply};
-ghost use Rattle.gv_spec.specs.Examples.{TwoCalls, CrashedCall, WrongPackage, Refusals, SecondFailure};
+ghost use Rattle.gv_spec.specs.Examples.{TwoCalls, CrashedCall, SumValues, WrongPackage, Refusals, StartedThreads, SecondFailure};
 ghost use Rattle.gv_spec.specs.Small.{AgreeOps, SmallRefines, SmallRefinesWithoutCrash, RefinesOnlySameReplies};
 
 use gv_base::Small;
@@ -58,13 +58,15 @@ pub fn explanations<F, V>()
 {}
 
 /// Worked runs, computed: two calls at the same time with their explanation, a call that a crash
-/// drops, a package that doesn't refine a specification, what refuses moves and where, and a second
-/// failure of a disk.
+/// drops, values of Sums, a package that doesn't refine a specification, what refuses moves and
+/// where, threads that start threads, and a second failure of a disk.
 #[tactic(auto, using(crate::proofs::Examples::two_calls_run, crate::proofs::Examples::crashed_call_run, crate::proofs::Examples::walk_refusals, crate::proofs::Examples::second_failure))]
 pub fn worked()
     ensures two_calls { TwoCalls }
     ensures crashed_call { CrashedCall }
+    ensures sums { SumValues }
     ensures wrong_package { WrongPackage }
     ensures refusals { Refusals }
+    ensures started { StartedThreads }
     ensures second_failure { SecondFailure }
 {}
