@@ -1,0 +1,7 @@
+pub mod Examples
+pub mod Threads
+pub mod Moves
+pub mod AtOnce
+pub mod SmallRuns
+pub mod RunLaws
+pub mod WalkLaws

@@ -1,0 +1,228 @@
+-- Worked runs and walks: the package with the one operation `Add(a, b)`, which returns `a + b`.
+use Rattle.std.specs.Prelude.{◌≡◌, ◌-◌, ◌^◌, ℕ, true, false, List, [], ◌∷◌, map, length, take, Option, Some, None, Result, Ok, Err, IsTrue, is_ok, nat_lt, if◌then◌else◌, codes}
+use Rattle.gv_base.specs.declared.small.Small.{Small}
+use Rattle.gv_base.specs.declared.small.SmallOp.{SmallOp}
+use Rattle.gv_base.specs.declared.small.Turn.{Turn}
+use Rattle.gv_base.specs.declared.small.Part.{Part}
+use Rattle.gv_base.specs.declared.small.Part.TheVariants as part
+use Rattle.gv_spec.specs.Event as event
+use Rattle.gv_spec.specs.Entry as entry
+use Rattle.gv_spec.specs.Move as move
+use Rattle.gv_spec.specs.Event.{Event}
+use Rattle.gv_spec.specs.Entry.{Entry}
+use Rattle.gv_spec.specs.Move.{Move}
+use Rattle.gv_spec.specs.Machine.{Answer, Next, Blocked, Stepped, GoesOn, Returns, Machine}
+use Rattle.gv_spec.specs.Runs.{Recovers, Answers, Spawned, RunState, outcome_of, run_of}
+use Rattle.gv_spec.specs.Walks.{Standing, NeverCalled, Acted, Answered, WalkState, WalkFault, WalkCause, Repeated, NotCalled, ActedAlready, NotActed, WrongReply, Order, Missing, first_walk, walk_from, Explains, walk}
+use Rattle.gv_spec.specs.Small.{sum_value, SmallThread, Hands, Sums, SmallResult, Reference, machine_of, specification_of, SmallRefinesWithoutCrash}
+
+abbrev pub add_op : SmallOp
+add_op = record {
+  name = codes "Add";
+  params = codes "a" ∷ codes "b" ∷ [];
+  first = part.Param 0;
+  rest = record { minus = false; part = part.Param 1 } ∷ [];
+}
+
+abbrev pub adder : Small
+adder = record { ops = add_op ∷ [] }
+
+-- the same but for `a - b`
+abbrev pub subtractor : Small
+subtractor = record { ops = record add_op { rest = record { minus = true; part = part.Param 1 } ∷ [] } ∷ [] }
+
+abbrev pub adder_run : List (Event ℕ) → RunState (Unit {0}) SmallThread SmallResult ℕ
+adder_run events = run_of (machine_of adder) (specification_of adder).allows events
+
+abbrev pub adder_outcome : List (Event ℕ) → Event ℕ → Answer (RunState (Unit {0}) SmallThread SmallResult ℕ)
+adder_outcome events e = outcome_of (machine_of adder) (specification_of adder).allows (adder_run events) e
+
+abbrev pub adder_walk : List (Entry ℕ) → List (Move ℕ) → Result (WalkState (Unit {0}) ℕ) WalkFault
+adder_walk history moves = walk (specification_of adder) history moves
+
+abbrev pub add : ℕ → ℕ → Event ℕ
+add x y = event.Call 0 (x ∷ y ∷ [])
+
+-- ---- two calls at the same time
+
+-- a call before the boot, the boot, two calls, a call with one argument, and a step of each call's
+-- thread, one of them once more, and a failure of a disk that isn't there
+abbrev pub two_calls : List (Event ℕ)
+two_calls = add 1 2 ∷ event.Step 1 ∷ event.Step 1 ∷ add 1 2 ∷ add 3 4 ∷ event.Call 0 (5 ∷ []) ∷ event.Step 3 ∷ event.Step 3 ∷ event.Step 2 ∷ event.Fail 0 ∷ []
+
+abbrev pub two_calls_history : List (Entry ℕ)
+two_calls_history = entry.Boot ∷ entry.Call 1 0 (1 ∷ 2 ∷ []) ∷ entry.Call 2 0 (3 ∷ 4 ∷ []) ∷ entry.Answer 2 7 ∷ entry.Answer 1 3 ∷ []
+
+abbrev pub two_calls_moves : List (Move ℕ)
+two_calls_moves = move.Other entry.Boot ∷ move.Other (entry.Call 1 0 (1 ∷ 2 ∷ [])) ∷ move.Act 1 ∷ move.Other (entry.Call 2 0 (3 ∷ 4 ∷ []))
+    ∷ move.Act 2 ∷ move.Other (entry.Answer 2 7) ∷ move.Other (entry.Answer 1 3) ∷ []
+
+-- each call acts just before its answer
+abbrev pub two_calls_late_moves : List (Move ℕ)
+two_calls_late_moves = move.Other entry.Boot ∷ move.Other (entry.Call 1 0 (1 ∷ 2 ∷ [])) ∷ move.Other (entry.Call 2 0 (3 ∷ 4 ∷ []))
+    ∷ move.Act 2 ∷ move.Other (entry.Answer 2 7) ∷ move.Act 1 ∷ move.Other (entry.Answer 1 3) ∷ []
+
+-- how many entries the history has after so many of the events
+abbrev pub entries_after : ℕ → ℕ
+entries_after count = length (adder_run (take count two_calls)).history
+
+abbrev pub standing_in : Result (WalkState (Unit {0}) ℕ) WalkCause → ℕ → Standing ℕ
+standing_in (Ok w) n = w.table n
+standing_in (Err cause) n = NeverCalled
+
+-- where call n stands after so many of the moves
+abbrev pub standing_after : ℕ → ℕ → Standing ℕ
+standing_after count n = standing_in (walk_from (specification_of adder) (first_walk (specification_of adder)) (take count two_calls_moves)) n
+
+pub record TwoCalls : Type 0 where
+  pub history : (adder_run two_calls).history ≡ two_calls_history
+  pub defined : (adder_run two_calls).fault ≡ None
+  -- recovery makes its object, the boot hands it on, and both calls are under way after their starts
+  pub made : (adder_run (take 2 two_calls)).threads ≡ Some (Recovers, Hands 1) ∷ []
+  pub booted : (adder_run (take 3 two_calls)).receiver ≡ Some (Reference 1)
+  pub under_way : (adder_run (take 5 two_calls)).threads ≡ None ∷ Some (Answers 1, Sums add_op (1 ∷ 2 ∷ [])) ∷ Some (Answers 2, Sums add_op (3 ∷ 4 ∷ [])) ∷ []
+  pub all_ended : (adder_run two_calls).threads ≡ None ∷ None ∷ None ∷ []
+  pub explained : IsTrue (is_ok (adder_walk two_calls_history two_calls_moves))
+  pub explained_late : IsTrue (is_ok (adder_walk two_calls_history two_calls_late_moves))
+  pub growing : map entries_after (0 ∷ 1 ∷ 2 ∷ 3 ∷ 4 ∷ 5 ∷ 6 ∷ 7 ∷ 8 ∷ 9 ∷ 10 ∷ []) ≡ 0 ∷ 0 ∷ 0 ∷ 1 ∷ 2 ∷ 3 ∷ 3 ∷ 4 ∷ 4 ∷ 5 ∷ 5 ∷ []
+  -- the walk after the two acts, and after all moves
+  pub first_acted : standing_after 5 1 ≡ Acted 3
+  pub second_acted : standing_after 5 2 ≡ Acted 7
+  pub first_answered : standing_after 7 1 ≡ Answered
+  -- what isn't possible, each time after the events before it
+  pub before_boot : adder_outcome [] (add 1 2) ≡ Blocked
+  pub one_argument : adder_outcome (take 5 two_calls) (event.Call 0 (5 ∷ [])) ≡ Blocked
+  pub has_ended : adder_outcome (take 7 two_calls) (event.Step 3) ≡ Blocked
+  pub no_disk : adder_outcome (take 9 two_calls) (event.Fail 0) ≡ Blocked
+  pub no_thread : adder_outcome (take 9 two_calls) (event.Step 4) ≡ Blocked
+  pub no_operation : adder_outcome (take 9 two_calls) (event.Call 1 (1 ∷ 2 ∷ [])) ≡ Blocked
+  pub too_large : adder_outcome (take 9 two_calls) (add (2 ^ 64) 1) ≡ Blocked
+
+-- ---- a crash, and a Sum that wraps
+
+abbrev pub crashed_call : List (Event ℕ)
+crashed_call = event.Step 1 ∷ event.Step 1 ∷ add 1 2 ∷ event.Crash ∷ event.Step 2 ∷ event.Step 3 ∷ event.Step 3 ∷ add (2 ^ 64 - 1) 1 ∷ event.Step 4 ∷ []
+
+pub record CrashedCall : Type 0 where
+  pub history : (adder_run crashed_call).history ≡ entry.Boot ∷ entry.Call 1 0 (1 ∷ 2 ∷ []) ∷ entry.Crash ∷ entry.Boot ∷ entry.Call 2 0 ((2 ^ 64 - 1) ∷ 1 ∷ []) ∷ entry.Answer 2 0 ∷ []
+  pub was_dropped : adder_outcome (take 4 crashed_call) (event.Step 2) ≡ Blocked
+
+-- ---- Sums
+
+-- the value of a Sum of two parts that begins with the first of two arguments
+abbrev pub two_parts : Turn → ℕ → ℕ → ℕ
+two_parts turn x y = sum_value (record add_op { rest = turn ∷ [] }) (x ∷ y ∷ [])
+
+abbrev pub plus : Part → Turn
+plus value = record { minus = false; part = value }
+
+abbrev pub minus : Part → Turn
+minus value = record { minus = true; part = value }
+
+pub record SumValues : Type 0 where
+  pub sum : two_parts (plus (part.Param 1)) 2 3 ≡ 5
+  pub around : two_parts (plus (part.Param 1)) (2 ^ 64 - 1) 3 ≡ 2
+  pub difference : two_parts (minus (part.Param 1)) 5 3 ≡ 2
+  pub below_zero : two_parts (minus (part.Param 1)) 3 5 ≡ 2 ^ 64 - 2
+  pub nothing : two_parts (minus (part.Param 0)) 5 3 ≡ 0
+  pub number : two_parts (minus (part.Number 3)) 10 0 ≡ 7
+  -- `10 - a + b - 1`, from the left
+  pub from_left : sum_value (record add_op { first = part.Number 10; rest = minus (part.Param 0) ∷ plus (part.Param 1) ∷ minus (part.Number 1) ∷ [] }) (4 ∷ 7 ∷ []) ≡ 12
+  pub alone : sum_value (record add_op { first = part.Param 1; rest = [] }) (4 ∷ 7 ∷ []) ≡ 7
+
+-- ---- a package that does something else
+
+-- the specification of a sum isn't refined by a difference
+abbrev pub WrongPackage : Type 0
+WrongPackage = SmallRefinesWithoutCrash subtractor adder → ⊥
+
+-- ---- what refuses a list of moves, at which move
+
+abbrev pub one_call : List (Entry ℕ)
+one_call = entry.Boot ∷ entry.Call 1 0 (1 ∷ 2 ∷ []) ∷ entry.Answer 1 3 ∷ []
+
+abbrev pub start : List (Move ℕ)
+start = move.Other entry.Boot ∷ move.Other (entry.Call 1 0 (1 ∷ 2 ∷ [])) ∷ []
+
+abbrev pub refused : ℕ → WalkCause → Result (WalkState (Unit {0}) ℕ) WalkFault
+refused index cause = Err (record { index = index; cause = cause })
+
+pub record Refusals : Type 0 where
+  pub not_acted : adder_walk one_call (move.Other entry.Boot ∷ move.Other (entry.Call 1 0 (1 ∷ 2 ∷ [])) ∷ move.Other (entry.Answer 1 3) ∷ []) ≡ refused 3 NotActed
+  pub missing : adder_walk one_call start ≡ refused 3 Missing
+  pub order : adder_walk one_call (move.Other entry.Boot ∷ move.Other (entry.Call 1 0 (1 ∷ 2 ∷ [])) ∷ move.Act 1 ∷ move.Other (entry.Answer 1 4) ∷ []) ≡ refused 4 Order
+  pub wrong_reply : adder_walk (entry.Boot ∷ entry.Call 1 0 (1 ∷ 2 ∷ []) ∷ entry.Answer 1 4 ∷ [])
+      (move.Other entry.Boot ∷ move.Other (entry.Call 1 0 (1 ∷ 2 ∷ [])) ∷ move.Act 1 ∷ move.Other (entry.Answer 1 4) ∷ []) ≡ refused 4 WrongReply
+  pub acted_already : adder_walk one_call (move.Other entry.Boot ∷ move.Other (entry.Call 1 0 (1 ∷ 2 ∷ [])) ∷ move.Act 1 ∷ move.Act 1 ∷ []) ≡ refused 4 ActedAlready
+  pub not_called : adder_walk one_call (move.Act 1 ∷ []) ≡ refused 1 NotCalled
+  pub repeated : adder_walk (entry.Boot ∷ entry.Call 1 0 (1 ∷ 2 ∷ []) ∷ entry.Call 1 0 (1 ∷ 2 ∷ []) ∷ [])
+      (move.Other entry.Boot ∷ move.Other (entry.Call 1 0 (1 ∷ 2 ∷ [])) ∷ move.Other (entry.Call 1 0 (1 ∷ 2 ∷ [])) ∷ []) ≡ refused 3 Repeated
+  -- a call that a boot left behind is in the table no more
+  pub left_behind : adder_walk (entry.Boot ∷ entry.Call 1 0 (1 ∷ 2 ∷ []) ∷ entry.Crash ∷ entry.Boot ∷ [])
+      (move.Other entry.Boot ∷ move.Other (entry.Call 1 0 (1 ∷ 2 ∷ [])) ∷ move.Other entry.Crash ∷ move.Other entry.Boot ∷ move.Act 1 ∷ []) ≡ refused 5 NotCalled
+  -- between a crash and the next boot it may still act
+  pub helped : IsTrue (is_ok (adder_walk (entry.Boot ∷ entry.Call 1 0 (1 ∷ 2 ∷ []) ∷ entry.Crash ∷ entry.Boot ∷ [])
+      (move.Other entry.Boot ∷ move.Other (entry.Call 1 0 (1 ∷ 2 ∷ [])) ∷ move.Other entry.Crash ∷ move.Act 1 ∷ move.Other entry.Boot ∷ [])))
+  -- no moves at all explain the wrong answer
+  pub none_explains : (moves : List (Move ℕ)) → Explains (specification_of adder) moves (entry.Boot ∷ entry.Call 1 0 (1 ∷ 2 ∷ []) ∷ entry.Answer 1 4 ∷ []) → ⊥
+
+-- ---- threads that start threads
+
+-- a thread that starts another one with nothing to do, or returns at once
+pub data Starter : Type 0 where
+  Starts : Starter
+  Ends : Starter
+
+abbrev pub starter_stepped : Starter → Unit {0} → Answer (Stepped (Unit {0}) Starter (Unit {0}))
+starter_stepped Starts world = Next (GoesOn world Ends (Ends ∷ []))
+starter_stepped Ends world = Next (Returns world tt)
+
+-- recovery and each call start a thread, then they return; a call replies 5
+abbrev pub starters : Machine (Unit {0}) Starter (Unit {0}) ℕ
+starters = record {
+  first_world = tt;
+  recovery = Starts;
+  stepped = starter_stepped;
+  called = λ receiver op args world. Some (world, Starts);
+  reply = λ result world. Ok 5;
+  crashed = λ world. world;
+  failed = λ disk world. None;
+}
+
+abbrev pub starters_run : List (Event ℕ) → RunState (Unit {0}) Starter (Unit {0}) ℕ
+starters_run events = run_of starters (λ op args. true) events
+
+pub record StartedThreads : Type 0 where
+  -- thread 1 starts thread 2, which ends without a boot
+  pub second : (starters_run (event.Step 1 ∷ [])).threads ≡ Some (Recovers, Ends) ∷ Some (Spawned, Ends) ∷ []
+  pub no_boot : (starters_run (event.Step 1 ∷ event.Step 2 ∷ [])).receiver ≡ None
+  -- a call in thread 3 starts thread 4, which ends after the call has answered and tells nothing
+  pub history : (starters_run (event.Step 1 ∷ event.Step 1 ∷ event.Step 2 ∷ event.Call 0 [] ∷ event.Step 3 ∷ event.Step 3 ∷ event.Step 4 ∷ [])).history
+      ≡ entry.Boot ∷ entry.Call 1 0 [] ∷ entry.Answer 1 5 ∷ []
+  pub ended : (starters_run (event.Step 1 ∷ event.Step 1 ∷ event.Step 2 ∷ event.Call 0 [] ∷ event.Step 3 ∷ event.Step 3 ∷ event.Step 4 ∷ [])).threads
+      ≡ None ∷ None ∷ None ∷ None ∷ []
+
+-- ---- two disks, of which one may fail
+
+-- the disk that has failed, if one has
+abbrev pub fail_once : ℕ → Option ℕ → Option (Option ℕ)
+fail_once disk None = if nat_lt disk 2 then Some (Some disk) else None
+fail_once disk (Some failed) = None
+
+-- a machine that does nothing but lose a disk
+abbrev pub two_disks : Machine (Option ℕ) (Unit {0}) (Unit {0}) ℕ
+two_disks = record {
+  first_world = None;
+  recovery = tt;
+  stepped = λ thread world. Next (Returns world tt);
+  called = λ receiver op args world. None;
+  reply = λ result world. Ok 0;
+  crashed = λ world. world;
+  failed = fail_once;
+}
+
+pub record SecondFailure : Type 0 where
+  pub no_third_disk : outcome_of two_disks (λ op args. false) (run_of two_disks (λ op args. false) []) (event.Fail 2) ≡ Blocked
+  pub second : outcome_of two_disks (λ op args. false) (run_of two_disks (λ op args. false) (event.Fail 1 ∷ [])) (event.Fail 0) ≡ Blocked
+  -- a crash keeps what has failed
+  pub after_crash : (run_of two_disks (λ op args. false) (event.Fail 1 ∷ event.Crash ∷ event.Fail 0 ∷ event.Fail 1 ∷ [])).world ≡ Some 1

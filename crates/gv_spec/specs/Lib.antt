@@ -1,0 +1,12 @@
+pub mod Event
+pub mod Entry
+pub mod Move
+pub mod Machine
+pub mod Specification
+pub mod Runs
+pub mod Walks
+pub mod Refines
+pub mod Small
+pub mod RunLaws
+pub mod WalkLaws
+pub mod Examples

@@ -1,0 +1,72 @@
+//! Laws of the definitions in this crate. Each function does nothing: its contract is the law.
+
+ghost use Rattle.gv_spec.specs.RunLaws.{ChangesNothing, NoCallBeforeBoot, NoStepOfEnded, EndedStays, CrashHappens, CrashDrops, NoFail, UndefinedStays, DefinedThroughout};
+ghost use Rattle.gv_spec.specs.WalkLaws.{WalkTells, ActsOnce, AnsweredActs, NoActAfterBoot, NoWrongReply};
+ghost use Rattle.gv_spec.specs.Examples.{TwoCalls, CrashedCall, SumValues, WrongPackage, Refusals, StartedThreads, SecondFailure};
+ghost use Rattle.gv_spec.specs.Small.{AgreeOps, SmallRefines, SmallRefinesWithoutCrash, RefinesOnlySameReplies};
+
+use gv_base::Small;
+
+/// A package of the small form refines a specification of the small form that has the same
+/// operations with the same Sums: in every run, and so in every run without a crash.
+pub fn small_refines(program: &Small, small: &Small)
+    requires { AgreeOps program.now small.now }
+    ensures every { SmallRefines program.now small.now }
+    ensures without_crash { SmallRefinesWithoutCrash program.now small.now }
+{}
+
+/// A package of the small form that refines a specification of the small form, if only without
+/// crashes, gives its replies.
+#[tactic(auto, using(crate::proofs::Examples::refines_only_same))]
+pub fn small_replies()
+    ensures { RefinesOnlySameReplies }
+{}
+
+/// What no event changes, for any machine: an event that isn't possible changes nothing, and these
+/// aren't possible: a call before a boot, a step of a thread that has ended, the failure of a disk
+/// that may not fail, anything after an undefined step.
+#[tactic(auto, using(crate::proofs::RunLaws::changes_nothing, crate::proofs::RunLaws::no_call_before_boot, crate::proofs::RunLaws::no_step_of_ended, crate::proofs::RunLaws::no_fail, crate::proofs::RunLaws::undefined_stays))]
+pub fn impossible_events<W, T, R, V>()
+    ensures unchanged { ChangesNothing W T R V }
+    ensures call { NoCallBeforeBoot W T R V }
+    ensures step { NoStepOfEnded W T R V }
+    ensures fail { NoFail W T R V }
+    ensures undefined { UndefinedStays W T R V }
+{}
+
+/// What holds along a run, for any machine: a thread that has ended or was dropped stays so, a crash
+/// is always possible and drops every thread, and a run without a fault at its end had no undefined
+/// step.
+#[tactic(auto, using(crate::proofs::RunLaws::stays_ended, crate::proofs::RunLaws::crash_drops_all, crate::proofs::RunLaws::throughout))]
+pub fn lasting<W, T, R, V>()
+    ensures ended { EndedStays W T R V }
+    ensures crash { CrashHappens W T R V }
+    ensures drops { CrashDrops W T R V }
+    ensures defined { DefinedThroughout W T R V }
+{}
+
+/// What an explanation tells, for any specification: a call acts at most once; an answered call has
+/// acted since its start, with the reply that it answers; a call that a boot left behind acts no
+/// more; no history with another reply than its operation's has an explanation. And the walk
+/// beside a history meets no fault exactly where the moves explain it.
+pub fn explanations<F, V>()
+    ensures tells { WalkTells F V }
+    ensures once { ActsOnce F V }
+    ensures answered { AnsweredActs F V }
+    ensures left_behind { NoActAfterBoot F V }
+    ensures right_replies { NoWrongReply F V }
+{}
+
+/// Worked runs, computed: two calls at the same time with their explanation, a call that a crash
+/// drops, values of Sums, a package that doesn't refine a specification, what refuses moves and
+/// where, threads that start threads, and a second failure of a disk.
+#[tactic(auto, using(crate::proofs::Examples::two_calls_run, crate::proofs::Examples::crashed_call_run, crate::proofs::Examples::walk_refusals, crate::proofs::Examples::second_failure))]
+pub fn worked()
+    ensures two_calls { TwoCalls }
+    ensures crashed_call { CrashedCall }
+    ensures sums { SumValues }
+    ensures wrong_package { WrongPackage }
+    ensures refusals { Refusals }
+    ensures started { StartedThreads }
+    ensures second_failure { SecondFailure }
+{}
