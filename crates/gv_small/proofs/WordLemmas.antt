@@ -1,5 +1,6 @@
 -- The word that comes first, and what it passes.
 use Rattle.std.proofs.Common.{◌≡◌, ℕ, Bool, true, false, cond, List, [], ◌∷◌, Option, Some, None, refl, sym, ap, subst, ◌∙◌}
+use Rattle.std.specs.Prelude.{Result, Ok, Err, IfErr, IsErrAnd}
 use Rattle.gv_base.specs.declared.answers.Refusal.{Refusal}
 use Rattle.gv_base.specs.declared.answers.Refusal.TheVariants as refusal
 use Rattle.gv_base.specs.declared.answers.Code.TheVariants.{NotInProfile}
@@ -30,3 +31,12 @@ module _ (p : List ℕ → Bool) where
   pub placed_passes : (ts : List Placed) (w : List ℕ) (r : List Placed) → word_placed (λ v. true) ts ≡ Some (w, r) → p w ≡ true → word_placed p ts ≡ Some (w, r)
   placed_passes [] w r e h = absurd cc
   placed_passes (t ∷ ts) w r e h = behind_passes t.token ts w r e h
+
+-- an error that is handed on, where the whole reading finds nothing because a part of it does
+pub err_kept : {A X Y : Type 0} (r : Result A Refusal) (e : Refusal) (part : Option X) (all : Option Y) → IsErrAnd r (λ x. x ≡ e) → Refuses part e → (part ≡ None → all ≡ None) → IfErr r (Refuses all)
+err_kept (Ok x) e part all h p f = tt
+err_kept (Err x) e part all h p f = kept x e part all h p f
+  where
+    kept : {X Y : Type 0} (x e : Refusal) (part : Option X) (all : Option Y) → x ≡ e → Refuses part e → (part ≡ None → all ≡ None) → Refuses all x
+    kept refusal.NoMemory e part all h p f = tt
+    kept (refusal.At place code) e part all h p f = let q = subst (λ y. Refuses part y) (sym h) p in (f q.0, q.1, q.2)

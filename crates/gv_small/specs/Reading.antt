@@ -68,6 +68,12 @@ begins_with_sign b (named w ∷ ts) = false
 begins_with_sign b (arrowed ∷ ts) = false
 begins_with_sign b (signed c ∷ ts) = c == b
 
+abbrev pub begins_with_word : List ℕ → List Token → Bool
+begins_with_word w [] = false
+begins_with_word w (named v ∷ ts) = bytes_eq v w
+begins_with_word w (arrowed ∷ ts) = false
+begins_with_word w (signed c ∷ ts) = false
+
 -- one after the other until it stops, at most so many
 abbrev pub many : {A : Type 0} → (List Token → Bool) → (List Token → Read A) → ℕ → List Token → Read (List A)
 many stop step zero ts = if stop ts then Some ([], ts) else None

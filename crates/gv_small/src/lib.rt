@@ -13,8 +13,8 @@ pub use cursor::Cursor;
 pub use names::{distinct_from, distinct_operations, distinct_or_refused};
 pub use parameter_list::parameters;
 pub use reading::{
-    begins_with_sign, expect, expect_word, is_at_end, name, not_of_form, operation_name,
-    pass_semicolon, word,
+    begins_with_sign, begins_with_word, expect, expect_word, is_at_end, name, not_of_form,
+    operation_name, pass_semicolon, word,
 };
 pub use sum_reader::{Sum, read_sum};
 pub use token::{SmallToken, Taken};

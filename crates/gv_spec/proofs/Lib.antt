@@ -1,4 +1,5 @@
 pub mod Examples
+pub mod SpecLemmas
 pub mod Threads
 pub mod Moves
 pub mod AtOnce

@@ -2,5 +2,7 @@
 #![tactic(auto)]
 
 mod laws;
+mod small_spec;
 
 pub use laws::{explanations, impossible_events, lasting, small_refines, small_replies, worked};
+pub use small_spec::read_small_spec;

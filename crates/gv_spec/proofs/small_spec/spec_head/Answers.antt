@@ -1,0 +1,13 @@
+use Rattle.std.proofs.Common.{refl}
+use Rattle.std.specs.Prelude.{codes}
+use Rattle.gv_small.specs.Cursor.{kinds_left}
+use Rattle.gv_small.specs.Tokens.{plain}
+use Rattle.gv_small.specs.Reading.{behind_all}
+use Rattle.gv_small.proofs.WordLemmas.{err_kept}
+use Rattle.gv_spec.specs.Reading as reading
+use Rattle.gv_spec.proofs.small_spec.spec_head.Goals as goal
+
+pub returns-in_err-expect-2-clause-err : goal.returns-in_err-expect-2-clause-err
+returns-in_err-expect-2-clause-err c =
+    err_kept c.from_residual-in_err-expect-2.result c.in_err-expect-2.field-0.0 (behind_all (plain (codes "; disks 0 ;")) (kinds_left c.name.new.cursor)) (reading.spec_head (kinds_left c.args.cursor.now))
+    c.from_residual-in_err-expect-2.ensures.1 c.in_err-expect-2.ensures.err (λ e. rw (c.in_ok-expect.ensures.ok, c.in_ok-name.ensures.ok, e) refl)
