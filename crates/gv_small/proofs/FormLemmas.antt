@@ -263,8 +263,8 @@ module _ (params : List (List ℕ)) where
 
 -- ---- lengths
 
-module _ {A : Type 0} (P : A → List Token → List Token → Type 0) where
-  pub many_length : ((a : A) (ts r : List Token) → P a ts r → length r ≤ length ts) → (xs : List A) (ts r : List Token) → Many P xs ts r → length r ≤ length ts
+module _ {S A : Type 0} (P : A → List S → List S → Type 0) where
+  pub many_length : ((a : A) (ts r : List S) → P a ts r → length r ≤ length ts) → (xs : List A) (ts r : List S) → Many P xs ts r → length r ≤ length ts
   many_length h xs ts r none = omega arith
   many_length h (x ∷ xs) ts r (more {middle = m} p k) =
       let a : length m ≤ length ts = h x ts m p in

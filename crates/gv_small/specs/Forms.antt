@@ -69,9 +69,9 @@ part_of params w = if begins_with_digit w then option_map Number (number_of w) e
 -- ---- the grammar
 
 -- one after the other, each as P says
-pub data Many {A : Type 0} (P : A → List Token → List Token → Type 0) : List A → List Token → List Token → Type 0 where
-  none : {ts : List Token} → Many P [] ts ts
-  more : {a : A} {more : List A} {before middle after : List Token} → P a before middle → Many P more middle after → Many P (a ∷ more) before after
+pub data Many {S A : Type 0} (P : A → List S → List S → Type 0) : List A → List S → List S → Type 0 where
+  none : {ts : List S} → Many P [] ts ts
+  more : {a : A} {more : List A} {before middle after : List S} → P a before middle → Many P more middle after → Many P (a ∷ more) before after
 
 -- `, NAME` and the words of its type
 pub data IsNextParameter (kind : List Token) : List ℕ → List Token → List Token → Type 0 where

@@ -10,9 +10,12 @@ use Rattle.gv_base.specs.declared.small.Turn.{Turn}
 use Rattle.gv_small.specs.Tokens.{Token, named, signed, arrowed, Placed, start}
 use Rattle.gv_small.specs.Forms.{is_name, is_distinct, part_of}
 
--- what a reader of A gives: an A and the tokens behind it
+-- what a reader of A gives: an A and what is left behind it
+abbrev pub ReadFrom : Type 0 → Type 0 → Type 0
+ReadFrom S A = Option (A × List S)
+
 abbrev pub Read : Type 0 → Type 0
-Read A = Option (A × List Token)
+Read A = ReadFrom Token A
 
 -- a text is refused at its first place where the reading finds nothing
 abbrev pub Refuses : {X : Type 0} → Option X → Refusal → Type 0
@@ -75,15 +78,15 @@ begins_with_word w (arrowed ∷ ts) = false
 begins_with_word w (signed c ∷ ts) = false
 
 -- one after the other until it stops, at most so many
-abbrev pub many : {A : Type 0} → (List Token → Bool) → (List Token → Read A) → ℕ → List Token → Read (List A)
+abbrev pub many : {S A : Type 0} → (List S → Bool) → (List S → ReadFrom S A) → ℕ → List S → ReadFrom S (List A)
 many stop step zero ts = if stop ts then Some ([], ts) else None
 many stop step (suc n) ts = if stop ts then Some ([], ts) else option_and_then (λ x. option_map (λ y. (x.0 ∷ y.0, y.1)) (many stop step n x.1)) (step ts)
 
-abbrev pub all_of : {A : Type 0} → (List Token → Bool) → (List Token → Read A) → List Token → Read (List A)
+abbrev pub all_of : {S A : Type 0} → (List S → Bool) → (List S → ReadFrom S A) → List S → ReadFrom S (List A)
 all_of stop step ts = many stop step (length ts) ts
 
 -- what was read before, and what is read now
-abbrev pub joined : {A : Type 0} → List A → Read (List A) → Read (List A)
+abbrev pub joined : {S A : Type 0} → List A → ReadFrom S (List A) → ReadFrom S (List A)
 joined done o = option_map (λ y. (done ++ y.0, y.1)) o
 
 -- ---- parameters
