@@ -77,7 +77,7 @@ second_failure = record { no_third_disk = refl; second = refl; after_crash = ref
 pub wrong_package : WrongPackage
 wrong_package refines =
     let events : List (Event ℕ) = event.Step 1 ∷ event.Step 1 ∷ event.Call 0 (1 ∷ 2 ∷ []) ∷ event.Step 2 ∷ [] in
-    let x = refines events refl in
+    let x = refines events ((λ h. cc), ((λ h. cc), ((λ h. cc), ((λ h. cc), tt)))) in
     no_wrong_reply (Unit {0}) ℕ (specification_of adder) 1 0 (1 ∷ 2 ∷ []) (2 ^ 64 - 1) (entry.Boot ∷ []) [] [] (λ fields e. omega (arith, e)) x.moves x.explains
 
 -- ---- a package refines no specification with another reply
@@ -108,7 +108,7 @@ module _ (program small : Small) (number : ℕ) (args : List ℕ) (op other : Sm
 
   no_crash : IsWithoutCrash one_call
   unfolding one_call
-  no_crash = refl
+  no_crash = ((λ h. cc), ((λ h. cc), ((λ h. cc), ((λ h. cc), tt))))
 
   same_reply : SmallRefinesWithoutCrash program small → sum_value op args ≡ sum_value other args
   same_reply refines = go (eqb (sum_value op args) (sum_value other args)) refl

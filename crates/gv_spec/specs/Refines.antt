@@ -1,7 +1,8 @@
 -- What it is for a machine to refine an atomic specification.
-use Rattle.std.specs.Prelude.{◌≡◌, List, None, IsFalse}
-use Rattle.std.specs.List.{list_any}
-use Rattle.gv_spec.specs.Event.{Event, is_crash}
+use Rattle.std.specs.Prelude.{◌≡◌, ◌≢◌, List, None}
+use Rattle.std.specs.List.{AllByRecursion}
+use Rattle.gv_spec.specs.Event as event
+use Rattle.gv_spec.specs.Event.{Event}
 use Rattle.gv_spec.specs.Move.{Move}
 use Rattle.gv_spec.specs.Machine.{Machine}
 use Rattle.gv_spec.specs.Specification.{Specification}
@@ -9,7 +10,7 @@ use Rattle.gv_spec.specs.Runs.{run_of, history_of}
 use Rattle.gv_spec.specs.Walks.{Explains}
 
 abbrev pub IsWithoutCrash : {V : Type 0} → List (Event V) → Type 0
-IsWithoutCrash events = IsFalse (list_any is_crash events)
+IsWithoutCrash events = AllByRecursion (λ e. e ≢ event.Crash) events
 
 module _ {W T R F V : Type 0} (machine : Machine W T R V) (atomic : Specification F V) where
   -- no step of the run is undefined, and its history has an explanation
