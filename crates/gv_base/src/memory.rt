@@ -1,6 +1,6 @@
 //! Files and a sink in memory, which fail at the calls of a list.
 
-ghost use Rattle.std.specs.Prelude.{◌≡◌, ◌+◌, ◌-◌, ◌^◌, ◌<◌, ◌≤◌, [], take, IfOk, IfErr, None, Some, vec_len, vec_capacity};
+ghost use Rattle.std.specs.Prelude.{◌≡◌, ◌+◌, ◌-◌, ◌^◌, ◌<◌, ◌≤◌, [], take, IfOk, IfErr, None, Some, ℕ, List as Seq, vec_len, vec_capacity};
 ghost use Rattle.std.specs.Option.{option_copied};
 ghost use Rattle.gv_base.specs.Outside.{bytes_under};
 
@@ -10,7 +10,7 @@ use crate::name::Name;
 use crate::outside::{FetchFail, Files, PutFail, Sink};
 use std::alloc::Global;
 
-/// A name, and what is held under it.
+/// A name, and the bytes that are held under it. This project's own.
 #[derive(Debug, Drop)]
 pub struct Held {
     pub name: Name,
@@ -41,7 +41,7 @@ pub fn front(alloc: Global, bytes: &[u8], most: u64) -> Result<Vec<u8>, FetchFai
     Vec::from_slice(alloc, bytes).map_err(|_| FetchFail::NoMemory)
 }
 
-/// Files in memory.
+/// Files in memory, which fail at the fetches of a list. This project's own.
 #[derive(Debug, Drop)]
 pub struct MemFiles {
     held: List<Held>,
@@ -52,7 +52,12 @@ pub struct MemFiles {
 }
 
 impl MemFiles {
-    pub fn new(alloc: Global, held: List<Held>, fails: List<u64>) -> MemFiles {
+    /// Files that hold these bytes, and fail at the fetches with these numbers, counted from 1.
+    /// Of two alike names the first counts; a name that isn't held is a fault.
+    pub fn new(held: List<Held>, fails: List<u64>) -> MemFiles
+        ensures held { (name : Seq ℕ) → ⟦<MemFiles as Files>⟧.held result name ≡ bytes_under held name }
+        ensures no_fault { ⟦<MemFiles as Files>⟧.faults result ≡ 0 }
+    {
         MemFiles {
             held,
             fails,
@@ -88,7 +93,8 @@ impl Files for MemFiles {
     }
 }
 
-/// A sink in memory, with room for so many bytes.
+/// A sink in memory with room for so many bytes, which fails at the puts of a list. A put that goes
+/// past the room writes what fits and fails. This project's own.
 #[derive(Debug, Drop)]
 pub struct MemSink {
     bytes: Vec<u8>,
@@ -101,8 +107,11 @@ pub struct MemSink {
 }
 
 impl MemSink {
+    /// A sink with room for `room` bytes, where nothing is written yet, which fails at the puts with
+    /// these numbers, counted from 1.
     pub fn new(alloc: Global, room: u64, fails: List<u64>) -> Result<MemSink, NoMemory>
         ensures empty { IfOk result (λ s. ⟦<MemSink as Sink>⟧.written s ≡ Some []) }
+        ensures no_fault { IfOk result (λ s. ⟦<MemSink as Sink>⟧.faults s ≡ 0) }
     {
         Ok(MemSink {
             bytes: Vec::with_capacity(alloc, room as usize)?,
@@ -113,6 +122,7 @@ impl MemSink {
         })
     }
 
+    /// The bytes that are written.
     pub fn written(&self) -> &Vec<u8>
         ensures { ⟦<MemSink as Sink>⟧.written self.now ≡ Some result.now.items }
     {
