@@ -1,1 +1,3 @@
+pub mod ComparingLemmas
+pub mod FilesLemmas
 pub mod ScriptLemmas

@@ -1,2 +1,5 @@
+pub mod Deserved
 pub mod Reading
+pub mod Report
 pub mod SmallScript
+pub mod Stages

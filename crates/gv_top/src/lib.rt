@@ -1,6 +1,10 @@
 //! The program, over files and a sink that are handed in.
 #![tactic(auto)]
 
+mod comparing;
+mod files;
+mod report;
 mod small_script;
 
+pub use report::{Cause, Report, status, text};
 pub use small_script::{SmallBlock, SmallScript, read_small_script};
