@@ -1,6 +1,13 @@
 -- A text of the form whose operations are not the package's.
-use Rattle.std.proofs.Common.{◌≡◌, ℕ, Bool, true, false, List, refl, sym, ap, subst, ◌∙◌}
-use Rattle.std.specs.Prelude.{map, IsTrue, ◌↔◌}
+use Rattle.std.proofs.Common.{◌≡◌, ℕ, Bool, true, false, List, refl, sym, ap, subst, ◌∙◌, inr}
+use Rattle.std.specs.Prelude.{map, IsTrue, ◌↔◌, ◌≤◌, length}
+use Rattle.gv_base.specs.declared.answers.Code.{Code}
+use Rattle.gv_base.specs.declared.answers.Code.TheVariants.{NotInProfile}
+use Rattle.gv_base.specs.Outside.{Fetched}
+use Rattle.gv_small.specs.Tokens.{start}
+use Rattle.gv_top.specs.declared.report.Report.{Report}
+use Rattle.gv_top.specs.declared.report.Report.TheVariants.{Refused}
+use Rattle.gv_top.specs.Deserved.{Asked, NoneFailed, EndsAt, longest}
 use Rattle.gv_base.specs.declared.small.Small.{Small}
 use Rattle.gv_small.proofs.Cuts.{false_true}
 use Rattle.gv_spec.specs.Small.{SameInterface}
@@ -23,3 +30,10 @@ other_blocks program script x ops blocks same e s p q test f =
     let k = subst (λ (y : SmallScript). map (λ op. op.name) program.ops ≡ map (λ b. b.name) y.ops) (sym e) s in
     let t : IsTrue same = test.1 (ap (map (λ op. op.name)) p ∙ k ∙ ap (map (λ b. b.name)) (sym q)) in
     false_true (sym f ∙ t)
+
+-- ---- stages
+
+pub refused_form : {A : Type 0} (IsForm : List ℕ → A → Type 0) (asked : Asked) (name : List ℕ) (code : Code) (r : Report) (text : List ℕ) → r ≡ Refused name start code → NoneFailed asked →
+    Fetched (asked.held name) longest text → length text ≤ longest → (code ≡ NotInProfile) × ((x : A) → IsForm text x → ⊥) → EndsAt IsForm asked name r
+refused_form IsForm asked name code r text e n f l h =
+    subst (λ x. EndsAt IsForm asked name x) (sym e) (refl, refl, n, record { bytes = text; fetched = f; why = inr (h.0, l, h.1) })

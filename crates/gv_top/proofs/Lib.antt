@@ -1,3 +1,6 @@
+pub mod CheckingLemmas
 pub mod ComparingLemmas
 pub mod FilesLemmas
+pub mod PutLemmas
+pub mod RunLemmas
 pub mod ScriptLemmas

@@ -98,19 +98,19 @@ EndsAt IsForm asked name OutOfMemory = ⊥
 EndsAt IsForm asked name (Unjustified place c) = ⊥
 EndsAt IsForm asked name AcceptedWithoutCrash = ⊥
 
--- all three texts are read
-abbrev pub AfterScript : Small → Small → SmallScript → Asked → Report → Type 0
-AfterScript program small script asked (Unjustified place c) = NoneFailed asked × (c ≡ cause.NoAtom) × IsFirstDifference program.ops small.ops script.ops place
-AfterScript program small script asked AcceptedWithoutCrash = NoneFailed asked × AllSameSums program.ops small.ops
-AfterScript program small script asked Usage = ⊥
-AfterScript program small script asked OutOfMemory = ⊥
-AfterScript program small script asked (CannotRead n) = ⊥
-AfterScript program small script asked (Refused n place code) = ⊥
+-- what the operations of three texts give beside each other
+abbrev pub Compares : Small → Small → SmallScript → Report → Type 0
+Compares program small script (Unjustified place c) = (c ≡ cause.NoAtom) × IsFirstDifference program.ops small.ops script.ops place
+Compares program small script AcceptedWithoutCrash = AllSameSums program.ops small.ops
+Compares program small script Usage = ⊥
+Compares program small script OutOfMemory = ⊥
+Compares program small script (CannotRead n) = ⊥
+Compares program small script (Refused n place code) = ⊥
 
 -- package and specification are read, and the script is next
 abbrev pub AfterSpec : Small → Small → List ℕ → Asked → Report → Type 0
 AfterSpec program small name asked r =
-    EndsAt (IsScriptFor program) asked name r ⊎ ((script : SmallScript) × Reads (IsScriptFor program) (asked.held name) script × AfterScript program small script asked r)
+    EndsAt (IsScriptFor program) asked name r ⊎ ((script : SmallScript) × Reads (IsScriptFor program) (asked.held name) script × NoneFailed asked × Compares program small script r)
 
 -- the package is read, and the specification is next
 abbrev pub AfterPackage : Small → List ℕ → List ℕ → Asked → Report → Type 0
@@ -135,11 +135,9 @@ pub record IsCheck (words : List (List ℕ)) (package_name spec_name script_name
 abbrev pub IsNoCommand : List (List ℕ) → Type 0
 IsNoCommand words = (p s t : List ℕ) → IsCheck words p s t → ⊥
 
--- the report that these words and what came of the fetches deserve; want of memory is free for a command
-abbrev pub Deserves : List (List ℕ) → Asked → Report → Type 0
-Deserves words asked Usage = IsNoCommand words × NoneFailed asked
-Deserves words asked OutOfMemory = (p : List ℕ) × (s : List ℕ) × (t : List ℕ) × IsCheck words p s t
-Deserves words asked (CannotRead n) = (p : List ℕ) × (s : List ℕ) × (t : List ℕ) × IsCheck words p s t × Checked p s t asked (CannotRead n)
-Deserves words asked (Refused n place code) = (p : List ℕ) × (s : List ℕ) × (t : List ℕ) × IsCheck words p s t × Checked p s t asked (Refused n place code)
-Deserves words asked (Unjustified place c) = (p : List ℕ) × (s : List ℕ) × (t : List ℕ) × IsCheck words p s t × Checked p s t asked (Unjustified place c)
-Deserves words asked AcceptedWithoutCrash = (p : List ℕ) × (s : List ℕ) × (t : List ℕ) × IsCheck words p s t × Checked p s t asked AcceptedWithoutCrash
+-- The report that these words, and what came of the fetches, deserve: the usage line where they are no
+-- command, with no fetch at all; else the report of the check, or want of memory, which is free.
+pub data Deserves (words : List (List ℕ)) (asked : Asked) : Report → Type 0 where
+  usage : IsNoCommand words → NoneFailed asked → Deserves words asked Usage
+  memory : (p s t : List ℕ) → IsCheck words p s t → Deserves words asked OutOfMemory
+  checked : (p s t : List ℕ) {r : Report} → IsCheck words p s t → Checked p s t asked r → Deserves words asked r
