@@ -10,6 +10,8 @@ mod real;
 mod reason;
 mod small;
 mod sure;
+#[cfg(test)]
+mod tests;
 
 pub use answers::{Code, NoMemory, Place, Refusal};
 pub use list::List;
