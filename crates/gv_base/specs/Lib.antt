@@ -1,3 +1,4 @@
 pub mod Codes
 pub mod formers
 pub mod Outside
+pub mod Places
