@@ -1,0 +1,4 @@
+pub mod Bytes
+pub mod Chars
+pub mod Signs
+pub mod Forms
