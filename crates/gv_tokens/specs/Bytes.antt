@@ -3,7 +3,7 @@ use Rattle.std.specs.Prelude.{ℕ, Bool, not, ◌||◌, ◌&&◌, ◌==◌}
 use Rattle.std.specs.Char.{is_digit}
 use Rattle.gv_base.specs.Places.{is_newline}
 use Rattle.gv_tokens.specs.declared.bytes.Class.{Class}
-use Rattle.gv_tokens.specs.declared.bytes.Class.TheVariants.{InLineComment, InText, InRawText, Decimal, Hexadecimal}
+use Rattle.gv_tokens.specs.declared.bytes.Class.TheVariants.{InLineComment, InText, InRawText, DecimalDigits, HexDigits}
 
 -- space, tab, carriage return, newline
 abbrev pub is_blank : ℕ → Bool
@@ -26,5 +26,5 @@ abbrev pub belongs : Class → ℕ → Bool
 belongs InLineComment b = not (is_newline b)
 belongs InText b = not (is_quote b) && not (is_newline b)
 belongs InRawText b = not (is_backquote b)
-belongs Decimal b = is_decimal b || is_underscore b
-belongs Hexadecimal b = is_digit b 16 || is_underscore b
+belongs DecimalDigits b = is_decimal b || is_underscore b
+belongs HexDigits b = is_digit b 16 || is_underscore b

@@ -1,4 +1,10 @@
 pub mod Bytes
 pub mod Chars
-pub mod Signs
+pub mod Comments
 pub mod Forms
+pub mod Lengths
+pub mod Numbers
+pub mod Runes
+pub mod Signs
+pub mod Texts
+pub mod Words

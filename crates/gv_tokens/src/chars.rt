@@ -1,6 +1,6 @@
 //! Characters, and those of names.
 
-ghost use Rattle.std.specs.Prelude.{◌≡◌, ◌+◌};
+ghost use Rattle.std.specs.Prelude.{◌≡◌, ◌+◌, ◌≤◌, length, slice_index, OnSome};
 ghost use Rattle.std.specs.Str.{continuation_len};
 ghost use Rattle.gv_tokens.specs.Chars as spec;
 
@@ -25,7 +25,8 @@ pub fn char_len(lead: u8) -> usize
 /// The character that a text begins with, where it begins with one.
 #[tactic(auto, unfolding(crate::specs::Chars::first_char))]
 pub fn first_char(text: &[u8]) -> Option<char>
-    ensures { result ≡ spec.first_char text.now }
+    ensures value { result ≡ spec.first_char text.now }
+    ensures within { OnSome result (1 + continuation_len (slice_index text.now 0) ≤ length text.now) }
 {
     match text {
         [] => None,
