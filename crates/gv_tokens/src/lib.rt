@@ -4,19 +4,19 @@
 mod bytes;
 mod chars;
 mod comments;
+mod faults;
 mod form;
+mod layout;
 mod numbers;
+mod pieces;
+mod reading;
 mod runes;
 mod signs;
 mod texts;
 mod words;
 
-pub use bytes::{Class, run_len};
-pub use chars::first_char;
-pub use comments::{block_len, line_len};
-pub use form::{Form, form_of};
-pub use numbers::{Base, number_fault, number_len};
-pub use runes::{Limit, rune_len};
-pub use signs::sign_len;
-pub use texts::{raw_len, text_len};
-pub use words::word_len;
+#[cfg(test)]
+mod tests;
+
+pub use gv_base::{Kind, Token, place_of};
+pub use reading::tokens;

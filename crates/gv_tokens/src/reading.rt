@@ -1,0 +1,132 @@
+//! The tokens of a text, or its first fault.
+
+ghost use Rattle.std.specs.Prelude.{◌≡◌, ◌+◌, ◌^◌, ◌<◌, ◌≤◌, ℕ, List as Seq, length, take, Some, IfOk, IfErr};
+ghost use Rattle.std.specs.Str.{IsUtf8, IsValidUpTo};
+ghost use Rattle.gv_base.specs.Places.{place_at};
+ghost use Rattle.gv_base.specs.declared.answers.Code.{Code as AnyCode};
+ghost use Rattle.gv_base.specs.declared.token.Token.{Token as AnyToken};
+ghost use Rattle.gv_tokens.specs.Reading as spec;
+
+use crate::faults::fault_of;
+use crate::form::{Form, form_of};
+use crate::layout::{insert, lay};
+use crate::pieces::len_of;
+use gv_base::{Code, NoMemory, Refusal, Token, place_of};
+use std::alloc::{AllocError, Global};
+use std::str;
+
+/// Why no tokens are given.
+enum Stop {
+    NoMemory,
+    At(u32, Code),
+}
+
+impl From<NoMemory> for Stop {
+    ghost use Rattle.gv_tokens.specs.declared.reading.Stop.TheVariants as stop;
+
+    ghost from_gives = { λ _ e. e ≡ stop.NoMemory };
+
+    fn from(_e: NoMemory) -> Stop {
+        Stop::NoMemory
+    }
+}
+
+impl From<AllocError> for Stop {
+    ghost use Rattle.gv_tokens.specs.declared.reading.Stop.TheVariants as stop;
+
+    ghost from_gives = { λ _ e. e ≡ stop.NoMemory };
+
+    fn from(_e: AllocError) -> Stop {
+        Stop::NoMemory
+    }
+}
+
+fn mark_len(text: &[u8]) -> usize
+    ensures value { result ≡ spec.mark_length text.now }
+    ensures within { result ≤ length text.now }
+{
+    match text {
+        [0xEF, 0xBB, 0xBF, ..] => 3,
+        _ => 0,
+    }
+}
+
+// The piece that a text begins with, as its form and how many bytes it has; or its fault, with how many bytes come
+// before the place.
+fn next_piece(text: &[u8]) -> Result<(Form, usize), (usize, Code)>
+    requires { 0 < length text.now }
+{
+    let form = form_of(text);
+    let len = len_of(form, text);
+    if len == 0 {
+        return Err((0, Code::BadChar));
+    }
+    match fault_of(form, &text[..len]) {
+        Some(fault) => Err(fault),
+        None => Ok((form, len)),
+    }
+}
+
+// The tokens of a text that may not be UTF-8.
+fn tokens_of(alloc: Global, text: &[u8]) -> Result<Vec<Token>, Stop>
+    requires { length text.now < 2 ^ 32 - 1 }
+{
+    let mut out = Vec::with_capacity(alloc, text.len() + 1)?;
+    let mut pending = None;
+    let mut at = mark_len(text);
+    while at < text.len() {
+        let rest = &text[at..];
+        match next_piece(rest) {
+            Ok((form, len)) => {
+                pending = lay(&mut out, pending, at as u32, form, &rest[..len])?;
+                at += len;
+            }
+            Err((before, code)) => return Err(Stop::At((at + before) as u32, code)),
+        }
+    }
+    insert(&mut out, pending)?;
+    Ok(out)
+}
+
+// Where the longest front of a text that is UTF-8 ends, if not with the text.
+fn utf8_end(text: &[u8]) -> Option<u32>
+    requires { length text.now < 2 ^ 32 - 1 }
+{
+    match str::from_utf8(text) {
+        Ok(_) => None,
+        Err(e) => Some(e.valid_up_to() as u32),
+    }
+}
+
+/// The tokens of a Go text of fewer than 2^32 - 1 bytes, with the semicolons that are inserted, or its refusal.
+///
+/// The text is cut into white space, comments and tokens, each the longest that can start at its place, after a byte
+/// order mark, where it begins with one. A refusal stands at the text's least fault, with the lower code at one place:
+/// `BadUtf8`, `BadChar`, `OpenComment`, `OpenText`, `BadNumber`, and `NotInProfile` for literals of Go that are outside
+/// of this project's profile. (The Go specification, sections "Source code representation" and "Lexical elements".)
+pub fn tokens(alloc: Global, text: &[u8]) -> Result<Vec<Token>, Refusal>
+    requires { length text.now < 2 ^ 32 - 1 }
+{
+    let end = utf8_end(text);
+    match tokens_of(alloc, text) {
+        Ok(read) => match end {
+            None => Ok(read),
+            Some(end) => Err(refusal(text, end, Code::BadUtf8)),
+        },
+        Err(Stop::NoMemory) => Err(Refusal::NoMemory),
+        Err(Stop::At(at, code)) => match end {
+            Some(end) if end <= at => Err(refusal(text, end, Code::BadUtf8)),
+            _ => Err(refusal(text, at, code)),
+        },
+    }
+}
+
+fn refusal(text: &[u8], at: u32, code: Code) -> Refusal
+    requires within { at ≤ length text.now }
+    requires small { at < 2 ^ 32 - 1 }
+{
+    Refusal::At {
+        place: place_of(text, at),
+        code,
+    }
+}
