@@ -23,19 +23,26 @@ kind_of RawText bytes = Some kind.Text
 kind_of Rune bytes = Some kind.Text
 kind_of Sign bytes = Some (if bytes_eq bytes (codes ";") then kind.Semi else kind.Sign)
 
--- Go's keywords but `break`, `continue` and `return`
-abbrev pub open_keywords : List (List ℕ)
-open_keywords =
-    codes "case" ∷ codes "chan" ∷ codes "const" ∷ codes "default" ∷ codes "defer" ∷ codes "else" ∷ codes "fallthrough"
-    ∷ codes "for" ∷ codes "func" ∷ codes "go" ∷ codes "goto" ∷ codes "if" ∷ codes "import" ∷ codes "interface" ∷ codes "map"
-    ∷ codes "package" ∷ codes "range" ∷ codes "select" ∷ codes "struct" ∷ codes "switch" ∷ codes "type" ∷ codes "var" ∷ []
+-- Go's keywords but `break`, `continue` and `return`, the shorter and the longer ones
+abbrev pub short_keywords : List (List ℕ)
+short_keywords =
+    codes "case" ∷ codes "chan" ∷ codes "const" ∷ codes "defer" ∷ codes "else" ∷ codes "for" ∷ codes "func" ∷ codes "go"
+    ∷ codes "goto" ∷ codes "if" ∷ codes "map" ∷ codes "range" ∷ codes "type" ∷ codes "var" ∷ []
+
+abbrev pub long_keywords : List (List ℕ)
+long_keywords =
+    codes "default" ∷ codes "fallthrough" ∷ codes "import" ∷ codes "interface" ∷ codes "package" ∷ codes "select"
+    ∷ codes "struct" ∷ codes "switch" ∷ []
+
+abbrev pub is_open_keyword : List ℕ → Bool
+is_open_keyword word = is_among short_keywords word || is_among long_keywords word
 
 abbrev pub closing_signs : List (List ℕ)
 closing_signs = codes "++" ∷ codes "--" ∷ codes ")" ∷ codes "]" ∷ codes "}" ∷ []
 
 -- whether a line that has this token last ends with a semicolon
 abbrev pub ends_line : Form → List ℕ → Bool
-ends_line Word bytes = not (is_among open_keywords bytes)
+ends_line Word bytes = not (is_open_keyword bytes)
 ends_line Sign bytes = is_among closing_signs bytes
 ends_line Number bytes = true
 ends_line Text bytes = true

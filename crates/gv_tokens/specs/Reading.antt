@@ -2,9 +2,10 @@
 use Rattle.std.specs.Prelude.{◌≡◌, ℕ, ◌+◌, ◌<◌, if◌then◌else◌, Option, None, Result, Ok, Err, List, [], ◌∷◌, length, take, drop, Vec}
 use Rattle.std.specs.List.{AllByRecursion}
 use Rattle.std.specs.Str.{IsUtf8, IsValidUpTo, bytes_eq}
+use Rattle.std.specs.declared.alloc.Global.{Global}
 use Rattle.gv_base.specs.Places.{place_at}
 use Rattle.gv_base.specs.declared.answers.Code.{Code}
-use Rattle.gv_base.specs.declared.answers.Code.TheVariants as code
+use Rattle.gv_base.specs.declared.answers.Code.TheVariants as codes
 use Rattle.gv_base.specs.declared.answers.Place.{Place}
 use Rattle.gv_base.specs.declared.answers.Refusal.{Refusal}
 use Rattle.gv_base.specs.declared.answers.Refusal.TheVariants as refusal
@@ -29,12 +30,12 @@ pub record HasTokens (text : List ℕ) (tokens : List Token) : Type 0 where
   pub pieces : List Piece
   pub cut : IsCut (body_of text) pieces []
   pub right : AllByRecursion IsRight pieces
-  pub laid : tokens ≡ laid (mark_length text) None pieces
+  pub listed : tokens ≡ laid (mark_length text) None pieces
 
 -- a text is read as these tokens
 pub record IsRead (text : List ℕ) (tokens : List Token) : Type 0 where
   pub utf8 : IsUtf8 text
-  pub tokens : HasTokens text tokens
+  pub spelled : HasTokens text tokens
 
 -- right pieces lead to a fault at a place
 pub record HasWrongPiece (text : List ℕ) (at : ℕ) (code : Code) : Type 0 where
@@ -48,35 +49,35 @@ pub record HasWrongPiece (text : List ℕ) (at : ℕ) (code : Code) : Type 0 whe
 
 -- The faults of a text: its UTF-8 ends at the place, or a piece is wrong there.
 pub data HasFault (text : List ℕ) (at : ℕ) (code : Code) : Type 0 where
-  not_utf8 : IsValidUpTo text at → code ≡ code.BadUtf8 → HasFault text at code
+  not_utf8 : IsValidUpTo text at → code ≡ codes.BadUtf8 → HasFault text at code
   wrong_piece : HasWrongPiece text at code → HasFault text at code
 
 -- the codes' order
 abbrev pub number_of : Code → ℕ
-number_of code.BadUtf8 = 1
-number_of code.BadChar = 2
-number_of code.OpenComment = 3
-number_of code.OpenText = 4
-number_of code.BadNumber = 5
-number_of code.Unexpected = 6
-number_of code.NotInProfile = 7
-number_of code.TooDeep = 8
-number_of code.EndOfText = 9
-number_of code.Undeclared = 10
-number_of code.Twice = 11
-number_of code.WrongType = 12
-number_of code.WrongCount = 13
-number_of code.NotAssignable = 14
-number_of code.MissingReturn = 15
-number_of code.Captured = 16
-number_of code.ConstTooLarge = 17
-number_of code.NoRecover = 18
-number_of code.TooLong = 19
-number_of code.Interface = 20
-number_of code.Disks = 21
-number_of code.TooMany = 22
-number_of code.TooManyCells = 23
-number_of code.TooManyEvents = 24
+number_of codes.BadUtf8 = 1
+number_of codes.BadChar = 2
+number_of codes.OpenComment = 3
+number_of codes.OpenText = 4
+number_of codes.BadNumber = 5
+number_of codes.Unexpected = 6
+number_of codes.NotInProfile = 7
+number_of codes.TooDeep = 8
+number_of codes.EndOfText = 9
+number_of codes.Undeclared = 10
+number_of codes.Twice = 11
+number_of codes.WrongType = 12
+number_of codes.WrongCount = 13
+number_of codes.NotAssignable = 14
+number_of codes.MissingReturn = 15
+number_of codes.Captured = 16
+number_of codes.ConstTooLarge = 17
+number_of codes.NoRecover = 18
+number_of codes.TooLong = 19
+number_of codes.Interface = 20
+number_of codes.Disks = 21
+number_of codes.TooMany = 22
+number_of codes.TooManyCells = 23
+number_of codes.TooManyEvents = 24
 
 -- one fault comes first: its place is less, or at one place its code's number is, or both are the same
 pub data ComesFirst (at : ℕ) (code : Code) (other : ℕ) (other_code : Code) : Type 0 where
@@ -91,12 +92,12 @@ pub record IsRefused (text : List ℕ) (at : ℕ) (code : Code) : Type 0 where
 
 -- ---- how a call answers so, unless memory runs out
 
-abbrev pub IsReadAs : List Token → Result (Vec Token) Refusal → Type 0
+abbrev pub IsReadAs : List Token → Result (Vec Token Global) Refusal → Type 0
 IsReadAs tokens (Ok read) = read.items ≡ tokens
 IsReadAs tokens (Err refusal.NoMemory) = Unit {0}
 IsReadAs tokens (Err (refusal.At place code)) = ⊥
 
-abbrev pub IsRefusedAs : Place → Code → Result (Vec Token) Refusal → Type 0
+abbrev pub IsRefusedAs : Place → Code → Result (Vec Token Global) Refusal → Type 0
 IsRefusedAs place code (Ok read) = ⊥
 IsRefusedAs place code (Err refusal.NoMemory) = Unit {0}
 IsRefusedAs place code (Err (refusal.At found other)) = (found ≡ place) × (other ≡ code)

@@ -20,31 +20,36 @@ fn kind_of(form: Form, bytes: &[u8]) -> Option<Kind>
     }
 }
 
-fn is_open_keyword(word: &[u8]) -> bool
-    ensures { result ≡ is_among spec.open_keywords word.now }
+fn is_short_keyword(word: &[u8]) -> bool
+    ensures { result ≡ is_among spec.short_keywords word.now }
 {
     word == b"case".as_slice()
         || word == b"chan".as_slice()
         || word == b"const".as_slice()
-        || word == b"default".as_slice()
         || word == b"defer".as_slice()
         || word == b"else".as_slice()
-        || word == b"fallthrough".as_slice()
         || word == b"for".as_slice()
         || word == b"func".as_slice()
         || word == b"go".as_slice()
         || word == b"goto".as_slice()
         || word == b"if".as_slice()
+        || word == b"map".as_slice()
+        || word == b"range".as_slice()
+        || word == b"type".as_slice()
+        || word == b"var".as_slice()
+}
+
+fn is_long_keyword(word: &[u8]) -> bool
+    ensures { result ≡ is_among spec.long_keywords word.now }
+{
+    word == b"default".as_slice()
+        || word == b"fallthrough".as_slice()
         || word == b"import".as_slice()
         || word == b"interface".as_slice()
-        || word == b"map".as_slice()
         || word == b"package".as_slice()
-        || word == b"range".as_slice()
         || word == b"select".as_slice()
         || word == b"struct".as_slice()
         || word == b"switch".as_slice()
-        || word == b"type".as_slice()
-        || word == b"var".as_slice()
 }
 
 fn is_closing_sign(sign: &[u8]) -> bool
@@ -61,7 +66,7 @@ fn ends_line(form: Form, bytes: &[u8]) -> bool
     ensures { result ≡ spec.ends_line form bytes.now }
 {
     match form {
-        Form::Word => !is_open_keyword(bytes),
+        Form::Word => !(is_short_keyword(bytes) || is_long_keyword(bytes)),
         Form::Sign => is_closing_sign(bytes),
         Form::Number | Form::Text | Form::RawText | Form::Rune => true,
         Form::Blank | Form::LineComment | Form::BlockComment => false,

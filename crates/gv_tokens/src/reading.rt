@@ -1,6 +1,6 @@
 //! The tokens of a text, or its first fault.
 
-ghost use Rattle.std.specs.Prelude.{◌≡◌, ◌+◌, ◌^◌, ◌<◌, ◌≤◌, ℕ, List as Seq, length, take, Some, IfOk, IfErr};
+ghost use Rattle.std.specs.Prelude.{◌≡◌, ◌+◌, ◌-◌, ◌^◌, ◌<◌, ◌≤◌, ℕ, List as Seq, length, take, Some, IfOk, IfErr};
 ghost use Rattle.std.specs.Str.{IsUtf8, IsValidUpTo};
 ghost use Rattle.gv_base.specs.Places.{place_at};
 ghost use Rattle.gv_base.specs.declared.answers.Code.{Code as AnyCode};
