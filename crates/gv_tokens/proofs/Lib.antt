@@ -1,5 +1,9 @@
+pub mod Cuts
+pub mod FirstFaults
+pub mod FormFronts
 pub mod Fronts
 pub mod Letters
+pub mod Longest
 pub mod RuneFronts
 pub mod SignFronts
 pub mod Values

@@ -9,6 +9,7 @@ pub mod Numbers
 pub mod Pieces
 pub mod Reading
 pub mod Runes
+pub mod Scanning
 pub mod Signs
 pub mod Texts
 pub mod Words

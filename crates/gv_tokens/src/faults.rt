@@ -1,6 +1,6 @@
 //! The faults of pieces.
 
-ghost use Rattle.std.specs.Prelude.{◌≡◌, position};
+ghost use Rattle.std.specs.Prelude.{◌≡◌, ◌<◌, position, length, IfSome};
 ghost use Rattle.gv_tokens.specs.Faults as spec;
 
 use crate::form::Form;
@@ -20,7 +20,9 @@ fn is_closed_comment(bytes: &[u8]) -> bool
 }
 
 fn text_fault(bytes: &[u8]) -> Option<(usize, Code)>
-    ensures { result ≡ spec.text_fault bytes.now }
+    requires { 0 < length bytes.now }
+    ensures value { result ≡ spec.text_fault bytes.now }
+    ensures within { IfSome result (λ fault. fault.0 < length bytes.now) }
 {
     if !is_closed(bytes, b'"') {
         return Some((0, Code::OpenText));
@@ -32,14 +34,17 @@ fn text_fault(bytes: &[u8]) -> Option<(usize, Code)>
 }
 
 fn first_backslash(bytes: &[u8]) -> Option<usize>
-    ensures { result ≡ position spec.is_backslash bytes.now }
+    ensures value { result ≡ position spec.is_backslash bytes.now }
+    ensures within { IfSome result (λ at. at < length bytes.now) }
 {
     bytes.iter().position(|byte| *byte == b'\\')
 }
 
 /// The fault of a piece, with how many bytes of the piece come before its place.
 pub fn fault_of(form: Form, bytes: &[u8]) -> Option<(usize, Code)>
-    ensures { result ≡ spec.fault_of form bytes.now }
+    requires { 0 < length bytes.now }
+    ensures value { result ≡ spec.fault_of form bytes.now }
+    ensures within { IfSome result (λ fault. fault.0 < length bytes.now) }
 {
     match form {
         Form::Blank | Form::LineComment | Form::Word | Form::Sign => None,

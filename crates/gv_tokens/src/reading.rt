@@ -1,11 +1,13 @@
 //! The tokens of a text, or its first fault.
 
-ghost use Rattle.std.specs.Prelude.{◌≡◌, ◌+◌, ◌-◌, ◌^◌, ◌<◌, ◌≤◌, ℕ, List as Seq, length, take, Some, IfOk, IfErr};
-ghost use Rattle.std.specs.Str.{IsUtf8, IsValidUpTo};
+ghost use Rattle.std.specs.Prelude.{◌≡◌, ◌+◌, ◌-◌, ◌^◌, ◌<◌, ◌≤◌, ℕ, List as Seq, length, IfOk, IfErr};
 ghost use Rattle.gv_base.specs.Places.{place_at};
 ghost use Rattle.gv_base.specs.declared.answers.Code.{Code as AnyCode};
+ghost use Rattle.gv_base.specs.declared.answers.Refusal.TheVariants.{At as refused_at};
 ghost use Rattle.gv_base.specs.declared.token.Token.{Token as AnyToken};
+ghost use Rattle.gv_tokens.specs.Faults.{FaultsAt};
 ghost use Rattle.gv_tokens.specs.Reading as spec;
+ghost use Rattle.gv_tokens.specs.Scanning.{IsNext, IsFound, IsEnd};
 
 use crate::faults::fault_of;
 use crate::form::{Form, form_of};
@@ -15,7 +17,8 @@ use gv_base::{Code, NoMemory, Refusal, Token, place_of};
 use std::alloc::{AllocError, Global};
 use std::str;
 
-/// Why no tokens are given.
+// Why no tokens are given.
+#[derive(Drop)]
 enum Stop {
     NoMemory,
     At(u32, Code),
@@ -55,6 +58,9 @@ fn mark_len(text: &[u8]) -> usize
 // before the place.
 fn next_piece(text: &[u8]) -> Result<(Form, usize), (usize, Code)>
     requires { 0 < length text.now }
+    ensures piece { IfOk result (λ next. IsNext text.now next.0 next.1) }
+    ensures fault { IfErr result (λ fault. FaultsAt text.now fault.0 fault.1) }
+    ensures within { IfErr result (λ fault. fault.0 < length text.now) }
 {
     let form = form_of(text);
     let len = len_of(form, text);
@@ -70,6 +76,7 @@ fn next_piece(text: &[u8]) -> Result<(Form, usize), (usize, Code)>
 // The tokens of a text that may not be UTF-8.
 fn tokens_of(alloc: Global, text: &[u8]) -> Result<Vec<Token>, Stop>
     requires { length text.now < 2 ^ 32 - 1 }
+    ensures { IsFound text.now result }
 {
     let mut out = Vec::with_capacity(alloc, text.len() + 1)?;
     let mut pending = None;
@@ -88,9 +95,10 @@ fn tokens_of(alloc: Global, text: &[u8]) -> Result<Vec<Token>, Stop>
     Ok(out)
 }
 
-// Where the longest front of a text that is UTF-8 ends, if not with the text.
+// Where a text stops being UTF-8, if it does.
 fn utf8_end(text: &[u8]) -> Option<u32>
     requires { length text.now < 2 ^ 32 - 1 }
+    ensures { IsEnd text.now result }
 {
     match str::from_utf8(text) {
         Ok(_) => None,
@@ -106,24 +114,44 @@ fn utf8_end(text: &[u8]) -> Option<u32>
 /// of this project's profile. (The Go specification, sections "Source code representation" and "Lexical elements".)
 pub fn tokens(alloc: Global, text: &[u8]) -> Result<Vec<Token>, Refusal>
     requires { length text.now < 2 ^ 32 - 1 }
+
+    // What is read is so, and what is so is read.
+    ensures read { IfOk result (λ read. spec.IsRead text.now read.items) }
+    ensures only { (tokens : Seq AnyToken) → spec.IsRead text.now tokens → spec.IsReadAs tokens result }
+
+    // A refusal stands at the first fault, and where there is one, the text is refused there.
+    ensures refused { IfErr result (spec.Refuses text.now) }
+    ensures fault { (at : ℕ) (code : AnyCode) → spec.IsRefused text.now at code → spec.IsRefusedAs (place_at text.now at) code result }
 {
-    let end = utf8_end(text);
-    match tokens_of(alloc, text) {
-        Ok(read) => match end {
-            None => Ok(read),
-            Some(end) => Err(refusal(text, end, Code::BadUtf8)),
-        },
-        Err(Stop::NoMemory) => Err(Refusal::NoMemory),
-        Err(Stop::At(at, code)) => match end {
-            Some(end) if end <= at => Err(refusal(text, end, Code::BadUtf8)),
-            _ => Err(refusal(text, at, code)),
-        },
+    judged(text, tokens_of(alloc, text), utf8_end(text))
+}
+
+// The answer by what the pieces came to and where the text stops being UTF-8.
+fn judged(
+    text: &[u8],
+    found: Result<Vec<Token>, Stop>,
+    end: Option<u32>,
+) -> Result<Vec<Token>, Refusal>
+    requires short { length text.now < 2 ^ 32 - 1 }
+    requires found { IsFound text.now found }
+    requires end { IsEnd text.now end }
+    ensures read { IfOk result (λ read. spec.IsRead text.now read.items) }
+    ensures refused { IfErr result (spec.Refuses text.now) }
+{
+    match (found, end) {
+        (Ok(read), None) => Ok(read),
+        (Err(Stop::NoMemory), _) => Err(Refusal::NoMemory),
+        (Ok(_), Some(end)) => Err(refusal(text, end, Code::BadUtf8)),
+        (Err(Stop::At(at, code)), Some(end)) if at < end => Err(refusal(text, at, code)),
+        (Err(Stop::At(_, _)), Some(end)) => Err(refusal(text, end, Code::BadUtf8)),
+        (Err(Stop::At(at, code)), None) => Err(refusal(text, at, code)),
     }
 }
 
 fn refusal(text: &[u8], at: u32, code: Code) -> Refusal
     requires within { at ≤ length text.now }
     requires small { at < 2 ^ 32 - 1 }
+    ensures { result ≡ refused_at (place_at text.now at) code }
 {
     Refusal::At {
         place: place_of(text, at),
