@@ -51,7 +51,7 @@ has_its_bytes p text b = omega (arith, ap length b, length-append p.bytes (drop 
 pub one_more_read : (text : List ℕ) (at : ℕ) (pending : Option ℕ) (out : List Token) (p : Piece) → HasReadTo text at pending out
     → IsLongest p (drop at text) → IsRight p
     → HasReadTo text (at + length p.bytes) (pending_for (kind_of p.form p.bytes) (ends_line p.form p.bytes) at pending p.bytes)
-        (out ++ tokens_for (kind_of p.form p.bytes) at pending p.bytes)
+    (out ++ tokens_for (kind_of p.form p.bytes) at pending p.bytes)
 one_more_read text at pending out p h longest right =
     let added = tokens_for (kind_of p.form p.bytes) at pending p.bytes in
     let next = pending_for (kind_of p.form p.bytes) (ends_line p.form p.bytes) at pending p.bytes in
@@ -61,8 +61,8 @@ one_more_read text at pending out p h longest right =
       cut = subst (IsCut (body_of text) (h.pieces ++ p ∷ [])) (drop-drop (length p.bytes) at text) (cut_more (body_of text) h.pieces (drop at text) p h.cut longest);
       right = right_more h.pieces p h.right right;
       rest = λ more.
-        append_assoc out added (laid (at + length p.bytes) next more) ∙ h.rest (p ∷ more)
-        ∙ ap (laid (mark_length text) None) (sym (append_assoc h.pieces (p ∷ []) more))
+          append_assoc out added (laid (at + length p.bytes) next more) ∙ h.rest (p ∷ more)
+          ∙ ap (laid (mark_length text) None) (sym (append_assoc h.pieces (p ∷ []) more));
     }
 
 pub all_read : (text : List ℕ) (at : ℕ) (pending : Option ℕ) (out : List Token) → HasReadTo text at pending out → length text ≤ at
@@ -72,7 +72,7 @@ all_read text at pending out h l =
       pieces = h.pieces;
       cut = subst (IsCut (body_of text) h.pieces) (drop_all at text l) h.cut;
       right = h.right;
-      listed = h.rest [] ∙ ap (laid (mark_length text) None) (append-nil h.pieces)
+      listed = h.rest [] ∙ ap (laid (mark_length text) None) (append-nil h.pieces);
     }
 
 pub fault_read : (text : List ℕ) (at : ℕ) (pending : Option ℕ) (out : List Token) (before : ℕ) (code : Code) → HasReadTo text at pending out
@@ -85,7 +85,7 @@ fault_read text at pending out before code h f =
       cut = h.cut;
       right = h.right;
       fault = f;
-      place = omega (arith, length-drop at text, h.within)
+      place = omega (arith, length-drop at text, h.within);
     }
 
 -- ---- one answer

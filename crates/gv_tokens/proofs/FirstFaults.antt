@@ -74,7 +74,7 @@ lowest _ = inr (omega arith)
 after_end : (code : Code) (end other : ℕ) → end ≤ other → ComesFirst end codes.BadUtf8 other code
 after_end code end other l =
     elim (which end other) [
-      inl less ↦ earlier less
+      | inl less ↦ earlier less
       | inr most ↦ elim (lowest code) [ inl e ↦ same (omega arith) e | inr h ↦ lower (omega arith) h ]
     ]
 

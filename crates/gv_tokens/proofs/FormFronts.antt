@@ -38,7 +38,7 @@ by_second : (blank quote back rune slash line block decimal point digit sign : B
     → (slash && line ≡ true → 2 ≤ len LineComment) → (slash && block ≡ true → 2 ≤ len BlockComment) → (point && digit ≡ true → 2 ≤ len Number)
     → len (chain blank quote back rune (slash && line) (slash && block) (decimal || (point && digit)) sign) ≤ 1
     → chain blank quote back rune (slash && false) (slash && false) (decimal || (point && false)) sign
-        ≡ chain blank quote back rune (slash && line) (slash && block) (decimal || (point && digit)) sign
+    ≡ chain blank quote back rune (slash && line) (slash && block) (decimal || (point && digit)) sign
 by_second true quote back rune slash line block decimal point digit sign len f g h w = refl
 by_second false true back rune slash line block decimal point digit sign len f g h w = refl
 by_second false false true rune slash line block decimal point digit sign len f g h w = refl

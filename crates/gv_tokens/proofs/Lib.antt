@@ -4,6 +4,7 @@ pub mod FormFronts
 pub mod Fronts
 pub mod Letters
 pub mod Longest
+pub mod NextPieces
 pub mod RuneFronts
 pub mod SignFronts
 pub mod Values

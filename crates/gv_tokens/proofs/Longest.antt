@@ -29,10 +29,10 @@ bounded : (p : Piece) (text : List ℕ) → IsPiece p → Begins p text → leng
 bounded p text h b =
     let n = length p.bytes in
     elim (which (own_length text) n) [
-      inl less ↦
-        let same = same_length text n h.some (omega arith) in
-        let moved : own_length (take n text) ≡ own_length p.bytes = ap own_length (is_front p text b) in
-        absurd (omega (arith, piece_length p h, same, moved))
+      | inl less ↦
+          let same = same_length text n h.some (omega arith) in
+          let moved : own_length (take n text) ≡ own_length p.bytes = ap own_length (is_front p text b) in
+          absurd (omega (arith, piece_length p h, same, moved))
       | inr enough ↦ enough
     ]
 
@@ -44,10 +44,10 @@ longest_piece text p w =
       piece = record {
         form = form_fronts text n p (omega arith);
         some = omega arith;
-        whole = length_fronts (form_of text) text n (omega arith) ∙ sym len
+        whole = length_fronts (form_of text) text n (omega arith) ∙ sym len;
       };
       begins = sym (ap (λ i. take n text ++ drop i text) len ∙ take-append-drop n text);
-      longest = λ q h b. omega (arith, bounded q text h b)
+      longest = λ q h b. omega (arith, bounded q text h b);
     }
 
 pub no_piece : (text : List ℕ) → own_length text ≡ 0 → BeginsWithNone text

@@ -46,7 +46,7 @@ at_most false count = omega arith
 not_whole : (n count : ℕ) (t : Bool) → n < count → cond (eqb n count && t) count 0 ≡ 0
 not_whole n count t h =
     elim (eqb n count) as (λ b. eqb n count ≡ b → cond (b && t) count 0 ≡ 0) [
-      true ↦ λ e. absurd (omega (arith, eqb-true n count e))
+      | true ↦ λ e. absurd (omega (arith, eqb-true n count e))
       | false ↦ λ e. refl
     ] refl
 
@@ -59,19 +59,19 @@ code_shows radix count limit text k =
     let front = code_length radix count limit (take k text) in
     let whole = code_length radix count limit text in
     elim (which k count) [
-      inl short ↦
-        let none : front ≡ 0 =
-            not_whole (length (take count (take k text))) count _ (omega (arith, length-take count (take k text), length-take k text)) in
-        fixed_none front whole k none (coded (is_code radix count limit (take count text)) count k short)
+      | inl short ↦
+          let none : front ≡ 0 =
+          not_whole (length (take count (take k text))) count _ (omega (arith, length-take count (take k text), length-take k text)) in
+          fixed_none front whole k none (coded (is_code radix count limit (take count text)) count k short)
       | inr fits ↦
-        let same : front ≡ whole = ap (λ digits. cond (is_code radix count limit digits) count 0) (take-take count k text fits) in
-        fixed_same front whole k same (omega (arith, at_most (is_code radix count limit (take count text)) count))
+          let same : front ≡ whole = ap (λ digits. cond (is_code radix count limit digits) count 0) (take-take count k text fits) in
+          fixed_same front whole k same (omega (arith, at_most (is_code radix count limit (take count text)) count))
     ]
 
 more_above : (n k : ℕ) → k < n → suc k < one_more n
 more_above n k h =
     elim (eqb n 0) as (λ b. eqb n 0 ≡ b → suc k < cond b 0 (1 + n)) [
-      true ↦ λ e. absurd (omega (arith, eqb-true n 0 e))
+      | true ↦ λ e. absurd (omega (arith, eqb-true n 0 e))
       | false ↦ λ e. omega arith
     ] refl
 
@@ -81,7 +81,7 @@ more_most n = elim (eqb n 0) as (λ b. cond b 0 (1 + n) ≤ 1 + n) [ true ↦ om
 more_shows : (m n k : ℕ) → IsFixed m n k → IsFixed (one_more m) (one_more n) (suc k)
 more_shows m n k f =
     elim (which k n) [
-      inl short ↦ fixed_none (one_more m) (one_more n) (suc k) (ap one_more (f.1 short)) (inr (more_above n k short))
+      | inl short ↦ fixed_none (one_more m) (one_more n) (suc k) (ap one_more (f.1 short)) (inr (more_above n k short))
       | inr fits ↦ fixed_same (one_more m) (one_more n) (suc k) (ap one_more (f.0 fits)) (omega (arith, more_most n))
     ]
 
@@ -109,10 +109,10 @@ char_part_shows b bs k =
     let front = of_char (first_char (b ∷ take k bs)) n in
     let whole = of_char (first_char (b ∷ bs)) n in
     elim (which k n) [
-      inl short ↦
-        fixed_none front whole (suc k) (ap (λ o. of_char o n) (char_hides b bs k short)) (coded (is_some (first_char (b ∷ bs))) (1 + n) (suc k) (omega arith))
+      | inl short ↦
+          fixed_none front whole (suc k) (ap (λ o. of_char o n) (char_hides b bs k short)) (coded (is_some (first_char (b ∷ bs))) (1 + n) (suc k) (omega arith))
       | inr fits ↦
-        fixed_same front whole (suc k) (ap (λ o. of_char o n) (char_shows b bs k fits)) (omega (arith, at_most (is_some (first_char (b ∷ bs))) (1 + n)))
+          fixed_same front whole (suc k) (ap (λ o. of_char o n) (char_shows b bs k fits)) (omega (arith, at_most (is_some (first_char (b ∷ bs))) (1 + n)))
     ]
 
 pub value_shows : (text : List ℕ) (k : ℕ) → Shows rune_value text k
@@ -158,11 +158,11 @@ rune_fronts (b ∷ bs) (suc k) h =
     let some = not (eqb n 0) in
     let shown = value_shows bs k in
     elim (which k n) [
-      inl short ↦
-        ap (λ i. quoted i (closes (take k bs) i)) (shown.1 short) ∙ none_quoted some (closes bs n) n k (omega arith) h
+      | inl short ↦
+          ap (λ i. quoted i (closes (take k bs) i)) (shown.1 short) ∙ none_quoted some (closes bs n) n k (omega arith) h
       | inr fits ↦
-        ap (λ i. quoted i (closes (take k bs) i)) (shown.0 fits) ∙ elim (which n k) [
-          inl within ↦ ap (quoted n) (closes_shows bs n k within)
-          | inr ends ↦ ap (quoted n) (closes_hides bs n k ends) ∙ never_closed some n ∙ none_quoted some (closes bs n) n k ends h
-        ]
+          ap (λ i. quoted i (closes (take k bs) i)) (shown.0 fits) ∙ elim (which n k) [
+            | inl within ↦ ap (quoted n) (closes_shows bs n k within)
+            | inr ends ↦ ap (quoted n) (closes_hides bs n k ends) ∙ never_closed some n ∙ none_quoted some (closes bs n) n k ends h
+          ]
     ]

@@ -20,7 +20,7 @@ char_shows b bs k h =
     let next : 1 + n ≡ suc n = omega arith in
     let taken : take (1 + n) (b ∷ take k bs) ≡ take (1 + n) (b ∷ bs) = rw next (ap (λ t. b ∷ t) (take-take n k bs h)) in
     let test : ltb (length (b ∷ take k bs)) (1 + n) ≡ ltb (length (b ∷ bs)) (1 + n) =
-        same_test (length (b ∷ take k bs)) (length (b ∷ bs)) (1 + n) (λ l. omega (arith, length-take k bs)) (λ l. omega (arith, length-take k bs)) in
+    same_test (length (b ∷ take k bs)) (length (b ∷ bs)) (1 + n) (λ l. omega (arith, length-take k bs)) (λ l. omega (arith, length-take k bs)) in
     ap (λ t. cond t None (char_of (take (1 + n) (b ∷ take k bs)))) test
     ∙ ap (λ t. cond (ltb (length (b ∷ bs)) (1 + n)) None (char_of t)) taken
 
@@ -73,12 +73,12 @@ letters_fronts zero (b ∷ bs) (suc k) h =
     let n = continuation_len b in
     let seen = begins_with is_letter_or_digit (b ∷ bs) in
     elim (which k n) [
-      inl short ↦
-        ap (λ o. run_after (option_map_or is_letter_or_digit o false) (letters_run n (take k bs))) (char_hides b bs k short)
-        ∙ none_read seen n (letters_run n bs) k (run_passes b bs) short h
+      | inl short ↦
+          ap (λ o. run_after (option_map_or is_letter_or_digit o false) (letters_run n (take k bs))) (char_hides b bs k short)
+          ∙ none_read seen n (letters_run n bs) k (run_passes b bs) short h
       | inr fits ↦
-        ap (λ o. run_after (option_map_or is_letter_or_digit o false) (letters_run n (take k bs))) (char_shows b bs k fits)
-        ∙ one_step seen (letters_run n (take k bs)) (letters_run n bs) k h (letters_fronts n bs k)
+          ap (λ o. run_after (option_map_or is_letter_or_digit o false) (letters_run n (take k bs))) (char_shows b bs k fits)
+          ∙ one_step seen (letters_run n (take k bs)) (letters_run n bs) k h (letters_fronts n bs k)
     ]
 
 word_step : (t : Bool) (m l k : ℕ) → cond t l 0 ≤ k → (l ≤ k → m ≡ l) → cond t m 0 ≡ cond t l 0
@@ -103,10 +103,10 @@ word_fronts (b ∷ bs) (suc k) h =
     let n = continuation_len b in
     let seen = begins_with is_letter (b ∷ bs) in
     elim (which k n) [
-      inl short ↦
-        ap (λ o. cond (option_map_or is_letter o false) (letters_run 0 (b ∷ take k bs)) 0) (char_hides b bs k short)
-        ∙ no_word seen n (letters_run 0 (b ∷ bs)) k (word_passes b bs) short h
+      | inl short ↦
+          ap (λ o. cond (option_map_or is_letter o false) (letters_run 0 (b ∷ take k bs)) 0) (char_hides b bs k short)
+          ∙ no_word seen n (letters_run 0 (b ∷ bs)) k (word_passes b bs) short h
       | inr fits ↦
-        ap (λ o. cond (option_map_or is_letter o false) (letters_run 0 (b ∷ take k bs)) 0) (char_shows b bs k fits)
-        ∙ word_step seen (letters_run 0 (b ∷ take k bs)) (letters_run 0 (b ∷ bs)) (suc k) h (letters_fronts 0 (b ∷ bs) (suc k))
+          ap (λ o. cond (option_map_or is_letter o false) (letters_run 0 (b ∷ take k bs)) 0) (char_shows b bs k fits)
+          ∙ word_step seen (letters_run 0 (b ∷ take k bs)) (letters_run 0 (b ∷ bs)) (suc k) h (letters_fronts 0 (b ∷ bs) (suc k))
     ]

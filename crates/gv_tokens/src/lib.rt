@@ -12,11 +12,10 @@ mod pieces;
 mod reading;
 mod runes;
 mod signs;
-mod texts;
-mod words;
-
 #[cfg(test)]
 mod tests;
+mod texts;
+mod words;
 
 pub use gv_base::{Kind, Token, place_of};
 pub use reading::tokens;

@@ -138,13 +138,37 @@ fn judged(
     ensures read { IfOk result (λ read. spec.IsRead text.now read.items) }
     ensures refused { IfErr result (spec.Refuses text.now) }
 {
-    match (found, end) {
-        (Ok(read), None) => Ok(read),
-        (Err(Stop::NoMemory), _) => Err(Refusal::NoMemory),
-        (Ok(_), Some(end)) => Err(refusal(text, end, Code::BadUtf8)),
-        (Err(Stop::At(at, code)), Some(end)) if at < end => Err(refusal(text, at, code)),
-        (Err(Stop::At(_, _)), Some(end)) => Err(refusal(text, end, Code::BadUtf8)),
-        (Err(Stop::At(at, code)), None) => Err(refusal(text, at, code)),
+    match found {
+        Ok(read) => read_if_utf8(text, read, end),
+        Err(Stop::NoMemory) => Err(Refusal::NoMemory),
+        Err(Stop::At(at, code)) => Err(first_fault(text, at, code, end)),
+    }
+}
+
+fn read_if_utf8(text: &[u8], read: Vec<Token>, end: Option<u32>) -> Result<Vec<Token>, Refusal>
+    requires short { length text.now < 2 ^ 32 - 1 }
+    requires read { spec.HasTokens text.now read.items }
+    requires end { IsEnd text.now end }
+    ensures read { IfOk result (λ read. spec.IsRead text.now read.items) }
+    ensures refused { IfErr result (spec.Refuses text.now) }
+{
+    match end {
+        None => Ok(read),
+        Some(end) => Err(refusal(text, end, Code::BadUtf8)),
+    }
+}
+
+fn first_fault(text: &[u8], at: u32, code: Code, end: Option<u32>) -> Refusal
+    requires short { length text.now < 2 ^ 32 - 1 }
+    requires within { at ≤ length text.now }
+    requires wrong { spec.HasWrongPiece text.now at code }
+    requires end { IsEnd text.now end }
+    ensures { spec.Refuses text.now result }
+{
+    match end {
+        None => refusal(text, at, code),
+        Some(end) if at < end => refusal(text, at, code),
+        Some(end) => refusal(text, end, Code::BadUtf8),
     }
 }
 

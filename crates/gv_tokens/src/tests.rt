@@ -223,9 +223,15 @@ const LINES: [(&[u8], &[u8]); 51] = [
     (b"false\nnil\n", b"wfalse ~ wnil ~ "),
     (b"if\nelse\nfor\n", b"wif welse wfor "),
     (b"go\ngoto\nmap\n", b"wgo wgoto wmap "),
-    (b"case\nchan\nconst\ndefault\n", b"wcase wchan wconst wdefault "),
+    (
+        b"case\nchan\nconst\ndefault\n",
+        b"wcase wchan wconst wdefault ",
+    ),
     (b"defer\nfallthrough\nfunc\n", b"wdefer wfallthrough wfunc "),
-    (b"import\ninterface\npackage\n", b"wimport winterface wpackage "),
+    (
+        b"import\ninterface\npackage\n",
+        b"wimport winterface wpackage ",
+    ),
     (b"range\nselect\nstruct\n", b"wrange wselect wstruct "),
     (b"switch\ntype\nvar\n", b"wswitch wtype wvar "),
     (b"uint64\nlen\n", b"wuint64 ~ wlen ~ "),
