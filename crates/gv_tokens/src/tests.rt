@@ -337,6 +337,9 @@ fn show(out: &mut Vec<u8>, text: &[u8], token: Token) -> Result<(), Fail> {
 
 fn shown(alloc: Global, text: &[u8]) -> Result<Vec<u8>, Fail> {
     let mut out = Vec::new(alloc);
+    if text.len() > 1000 {
+        return Ok(out);
+    }
     match tokens(alloc, text) {
         Ok(read) => {
             for token in &read {
