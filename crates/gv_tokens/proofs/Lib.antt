@@ -1,3 +1,4 @@
+pub mod AsciiChars
 pub mod Cuts
 pub mod FirstFaults
 pub mod FormFronts

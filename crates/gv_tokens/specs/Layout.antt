@@ -11,6 +11,9 @@ use Rattle.gv_tokens.specs.declared.form.Form.TheVariants.{Blank, LineComment, B
 use Rattle.gv_tokens.specs.Pieces.{Piece}
 use Rattle.gv_tokens.specs.Signs.{is_among}
 
+abbrev pub sign_kind : List ℕ → Kind
+sign_kind sign = if bytes_eq sign (codes ";") then kind.Semi else kind.Sign
+
 -- what a piece is as a token, where it is one
 abbrev pub kind_of : Form → List ℕ → Option Kind
 kind_of Blank bytes = None
@@ -21,7 +24,7 @@ kind_of Number bytes = Some kind.Number
 kind_of Text bytes = Some kind.Text
 kind_of RawText bytes = Some kind.Text
 kind_of Rune bytes = Some kind.Text
-kind_of Sign bytes = Some (if bytes_eq bytes (codes ";") then kind.Semi else kind.Sign)
+kind_of Sign bytes = Some (sign_kind bytes)
 
 -- Go's keywords but `break`, `continue` and `return`, the shorter and the longer ones
 abbrev pub short_keywords : List (List ℕ)

@@ -31,6 +31,9 @@ pub fn first_char(text: &[u8]) -> Option<char>
     match text {
         [] => None,
         [lead, ..] => {
+            if *lead < 0x80 {
+                return Some(*lead as char);
+            }
             let len = char_len(*lead);
             if text.len() < len {
                 return None;

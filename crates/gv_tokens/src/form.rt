@@ -3,8 +3,7 @@
 ghost use Rattle.std.specs.Prelude.{◌≡◌};
 ghost use Rattle.gv_tokens.specs.Forms.{form_of, form_by};
 
-use crate::bytes::{is_blank, is_decimal};
-use crate::signs::is_sign_of_one;
+use crate::bytes::is_decimal;
 
 /// What a piece of a text is by its first bytes. Raw texts and runes stand in Go's grammar alone.
 #[derive(Clone, Copy, Debug, PartialEq, Eq)]
@@ -33,26 +32,42 @@ pub fn form_of(text: &[u8]) -> Form
     }
 }
 
+#[tactic(auto, unfolding(crate::specs::Signs::is_sign))]
 fn form_by(first: u8, second: u8) -> Form
     ensures { result ≡ form_by first second }
 {
-    if is_blank(first) {
-        Form::Blank
-    } else if first == b'"' {
-        Form::Text
-    } else if first == b'`' {
-        Form::RawText
-    } else if first == b'\'' {
-        Form::Rune
-    } else if first == b'/' && second == b'/' {
-        Form::LineComment
-    } else if first == b'/' && second == b'*' {
-        Form::BlockComment
-    } else if is_decimal(first) || first == b'.' && is_decimal(second) {
+    match first {
+        b' ' | b'\t' | b'\r' | b'\n' => Form::Blank,
+        b'"' => Form::Text,
+        b'`' => Form::RawText,
+        b'\'' => Form::Rune,
+        b'/' => slash_form(second),
+        b'.' => point_form(second),
+        b'0'..=b'9' => Form::Number,
+        b'(' | b')' | b'[' | b']' | b'{' | b'}' | b',' | b';' | b':' | b'=' | b'!' => Form::Sign,
+        b'<' | b'>' | b'+' | b'-' | b'*' | b'%' | b'&' | b'|' | b'^' => Form::Sign,
+        _ => Form::Word,
+    }
+}
+
+#[tactic(auto, unfolding(crate::specs::Signs::is_sign))]
+fn slash_form(second: u8) -> Form
+    ensures { result ≡ form_by 47 second }
+{
+    match second {
+        b'/' => Form::LineComment,
+        b'*' => Form::BlockComment,
+        _ => Form::Sign,
+    }
+}
+
+#[tactic(auto, unfolding(crate::specs::Signs::is_sign))]
+fn point_form(second: u8) -> Form
+    ensures { result ≡ form_by 46 second }
+{
+    if is_decimal(second) {
         Form::Number
-    } else if is_sign_of_one(first) {
-        Form::Sign
     } else {
-        Form::Word
+        Form::Sign
     }
 }

@@ -15,28 +15,39 @@ fn kind_of(form: Form, bytes: &[u8]) -> Option<Kind>
         Form::Word => Some(Kind::Word),
         Form::Number => Some(Kind::Number),
         Form::Text | Form::RawText | Form::Rune => Some(Kind::Text),
-        Form::Sign if bytes == b";".as_slice() => Some(Kind::Semi),
-        Form::Sign => Some(Kind::Sign),
+        Form::Sign => Some(sign_kind(bytes)),
+    }
+}
+
+fn sign_kind(sign: &[u8]) -> Kind
+    ensures { result ≡ spec.sign_kind sign.now }
+{
+    match sign {
+        b";" => Kind::Semi,
+        _ => Kind::Sign,
     }
 }
 
 fn is_short_keyword(word: &[u8]) -> bool
     ensures { result ≡ is_among spec.short_keywords word.now }
 {
-    word == b"case".as_slice()
-        || word == b"chan".as_slice()
-        || word == b"const".as_slice()
-        || word == b"defer".as_slice()
-        || word == b"else".as_slice()
-        || word == b"for".as_slice()
-        || word == b"func".as_slice()
-        || word == b"go".as_slice()
-        || word == b"goto".as_slice()
-        || word == b"if".as_slice()
-        || word == b"map".as_slice()
-        || word == b"range".as_slice()
-        || word == b"type".as_slice()
-        || word == b"var".as_slice()
+    match word {
+        b"case"
+        | b"chan"
+        | b"const"
+        | b"defer"
+        | b"else"
+        | b"for"
+        | b"func"
+        | b"go"
+        | b"goto"
+        | b"if"
+        | b"map"
+        | b"range"
+        | b"type"
+        | b"var" => true,
+        _ => false,
+    }
 }
 
 fn is_long_keyword(word: &[u8]) -> bool
@@ -55,11 +66,10 @@ fn is_long_keyword(word: &[u8]) -> bool
 fn is_closing_sign(sign: &[u8]) -> bool
     ensures { result ≡ is_among spec.closing_signs sign.now }
 {
-    sign == b"++".as_slice()
-        || sign == b"--".as_slice()
-        || sign == b")".as_slice()
-        || sign == b"]".as_slice()
-        || sign == b"}".as_slice()
+    match sign {
+        b")" | b"]" | b"}" | b"++" | b"--" => true,
+        _ => false,
+    }
 }
 
 fn ends_line(form: Form, bytes: &[u8]) -> bool

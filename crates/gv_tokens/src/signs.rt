@@ -35,12 +35,22 @@ pub fn is_sign_of_one(byte: u8) -> bool
 fn is_sign_of_two(first: u8, second: u8) -> bool
     ensures { result ≡ spec.is_sign (first ∷ second ∷ []) }
 {
-    match (first, second) {
-        (b':' | b'=' | b'!' | b'<' | b'>', b'=') => true,
-        (b'+' | b'-' | b'*' | b'/' | b'%' | b'&' | b'|' | b'^', b'=') => true,
-        (b'&', b'&' | b'^') => true,
-        (b'<', b'<' | b'-') => true,
-        (b'|', b'|') | (b'+', b'+') | (b'-', b'-') | (b'>', b'>') => true,
+    match second {
+        b'=' => comes_before_equals(first),
+        b'^' => first == b'&',
+        b'-' => first == b'-' || first == b'<',
+        b'&' | b'|' | b'+' | b'<' | b'>' => first == second,
+        _ => false,
+    }
+}
+
+#[tactic(auto, unfolding(crate::specs::Signs::is_sign))]
+fn comes_before_equals(first: u8) -> bool
+    ensures { result ≡ spec.is_sign (first ∷ 61 ∷ []) }
+{
+    match first {
+        b':' | b'=' | b'!' | b'<' | b'>' => true,
+        b'+' | b'-' | b'*' | b'/' | b'%' | b'&' | b'|' | b'^' => true,
         _ => false,
     }
 }
