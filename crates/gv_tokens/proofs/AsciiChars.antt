@@ -1,6 +1,6 @@
 -- An ASCII byte is its own character.
-use Rattle.std.proofs.Common.{◌≡◌, ◌≤◌, ◌<◌, ◌+◌, ℕ, suc, true, false, cond, ltb, lt-ltb, le-ltb, Option, Some, None, List, [], ◌∷◌, length, take, get_or, slice_get, refl, sym, ap, subst, ◌∙◌, arith}
-use Rattle.std.specs.Str.{IsUtf8, is_utf8, chars, chars_after, continuation_len, lead_bits}
+use Rattle.std.proofs.Common.{◌≡◌, ◌≤◌, ◌<◌, ◌+◌, ℕ, cond, ltb, lt-ltb, le-ltb, Some, None, List, [], ◌∷◌, length, take, get_or, slice_get, refl, sym, ap, subst, ◌∙◌, arith}
+use Rattle.std.specs.Str.{IsUtf8, chars, chars_after, continuation_len, lead_bits}
 use Rattle.std.proofs.lemmas.Str.{is_utf8-from_IsUtf8, IsUtf8-encode, encode_ascii}
 use lib.Utf8.{low_scalar}
 use Rattle.gv_tokens.specs.Chars.{first_char, char_of}

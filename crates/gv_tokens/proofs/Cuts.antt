@@ -1,13 +1,12 @@
 -- A text is cut in one way.
-use Rattle.std.proofs.Common.{◌≡◌, ◌≤◌, ◌<◌, ◌+◌, ◌++◌, ℕ, zero, suc, List, [], ◌∷◌, length, take, drop, Option, Some, None, refl, sym, ap, subst, ◌∙◌, append_assoc, append-nil, arith}
+use Rattle.std.proofs.Common.{◌≡◌, ◌≤◌, ◌<◌, ◌+◌, ◌++◌, ℕ, List, [], ◌∷◌, length, drop, Option, Some, None, refl, sym, ap, subst, ◌∙◌, append_assoc, append-nil, arith}
 use Rattle.std.proofs.lemmas.List.{length-append, length-drop, drop-drop, drop_all}
 use Rattle.std.specs.List.{AllByRecursion}
 use Rattle.gv_base.specs.declared.answers.Code.{Code}
-use Rattle.gv_base.specs.declared.answers.Code.TheVariants.{BadChar}
 use Rattle.gv_base.specs.declared.token.Token.{Token}
 use Rattle.gv_tokens.specs.Faults.{fault_of, IsRight, FaultsAt, wrong, stray}
 use Rattle.gv_tokens.specs.Layout.{kind_of, ends_line, tokens_for, pending_for, inserted, laid}
-use Rattle.gv_tokens.specs.Pieces.{Piece, IsPiece, Begins, IsLongest, BeginsWithNone, IsCut}
+use Rattle.gv_tokens.specs.Pieces.{Piece, Begins, IsLongest, IsCut}
 use Rattle.gv_tokens.specs.Reading.{mark_length, body_of, HasTokens, HasWrongPiece}
 use Rattle.gv_tokens.proofs.Longest.{one_longest}
 

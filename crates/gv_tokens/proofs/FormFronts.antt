@@ -1,15 +1,12 @@
 -- The form of a piece shows in a front that holds the piece.
-use Rattle.std.proofs.Common.{◌≡◌, ◌≤◌, ◌<◌, ◌+◌, ◌&&◌, ◌||◌, ◌⊎◌, inl, inr, ℕ, zero, suc, Bool, true, false, cond, eqb, List, [], ◌∷◌, length, take, drop, slice_index, refl, sym, ap, ◌∙◌, arith}
+use Rattle.std.proofs.Common.{◌≡◌, ◌≤◌, ◌<◌, ◌&&◌, ◌||◌, ℕ, zero, suc, Bool, true, false, cond, eqb, List, [], ◌∷◌, take, refl, arith}
 use borrow.Author.Tests.{eqb-true}
-use Rattle.std.specs.Char.{is_digit}
-use Rattle.std.specs.List.{prefix_len}
 use Rattle.gv_tokens.specs.declared.form.Form.{Form}
 use Rattle.gv_tokens.specs.declared.form.Form.TheVariants.{Blank, LineComment, BlockComment, Word, Number, Text, RawText, Rune, Sign}
 use Rattle.gv_tokens.specs.Bytes.{is_blank, is_quote, is_backquote, is_decimal}
-use Rattle.gv_tokens.specs.Comments.{block_rest, block_length, line_length}
-use Rattle.gv_tokens.specs.Forms.{form_by, form_of}
-use Rattle.gv_tokens.specs.Lengths.{run}
-use Rattle.gv_tokens.specs.Numbers.{number_length, base_of, parts_length}
+use Rattle.gv_tokens.specs.Comments.{block_length, line_length}
+use Rattle.gv_tokens.specs.Forms.{form_of}
+use Rattle.gv_tokens.specs.Numbers.{number_length}
 use Rattle.gv_tokens.specs.Pieces.{length_of}
 use Rattle.gv_tokens.specs.Signs.{is_sign}
 use Rattle.gv_tokens.proofs.Fronts.{KeepsFronts, optional_fronts, nothing_fronts, line_fronts, block_fronts, text_fronts, raw_fronts, number_fronts}

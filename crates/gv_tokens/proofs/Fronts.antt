@@ -1,5 +1,5 @@
 -- A part takes as much of a front of a text as of the text, where the front is long enough for that.
-use Rattle.std.proofs.Common.{◌≡◌, ◌≤◌, ◌<◌, ◌+◌, ◌-◌, ◌&&◌, ℕ, zero, suc, Bool, true, false, cond, eqb, List, [], ◌∷◌, length, take, drop, slice_index, refl, sym, ap, ◌∙◌, arith}
+use Rattle.std.proofs.Common.{◌≡◌, ◌≤◌, ◌+◌, ◌-◌, ◌&&◌, ℕ, zero, suc, Bool, true, false, cond, eqb, List, [], ◌∷◌, take, drop, slice_index, refl, ap, ◌∙◌, arith}
 use Rattle.std.proofs.lemmas.List.{drop-take}
 use Rattle.std.specs.List.{prefix_len}
 use Rattle.gv_tokens.specs.declared.bytes.Class.{Class}
@@ -9,7 +9,7 @@ use Rattle.gv_tokens.specs.declared.bytes.Class.TheVariants.{InLineComment, InTe
 use Rattle.gv_tokens.specs.Bytes.{belongs, is_quote, is_backquote}
 use Rattle.gv_tokens.specs.Comments.{block_rest, block_length, line_length}
 use Rattle.gv_tokens.specs.Lengths.{nothing, run, optional, after_two, in_turn}
-use Rattle.gv_tokens.specs.Numbers.{base_of, base_by, prefix_length, digits_of, parts_length, number_length, fraction_length, exponent_length, imaginary_length, sign_length, is_point, is_exponent_letter, is_plus_or_minus, is_i}
+use Rattle.gv_tokens.specs.Numbers.{base_of, prefix_length, digits_of, parts_length, number_length, fraction_length, exponent_length, imaginary_length, sign_length, is_point, is_exponent_letter, is_plus_or_minus, is_i}
 use Rattle.gv_tokens.specs.Texts.{text_length, raw_length}
 
 abbrev pub KeepsFronts : (List ℕ → ℕ) → Type 0

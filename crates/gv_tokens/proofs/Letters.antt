@@ -1,8 +1,7 @@
 -- The letters and digits at the front of a text, a character at a time.
-use Rattle.std.proofs.Common.{◌≡◌, ◌≤◌, ◌+◌, ℕ, zero, suc, Bool, true, false, cond, Option, Some, None, List, [], ◌∷◌, length, drop, slice_index, refl, ap, ◌∙◌, sym, arith}
+use Rattle.std.proofs.Common.{◌≡◌, ◌≤◌, ◌+◌, ℕ, zero, suc, true, Some, List, [], ◌∷◌, length, drop, slice_index, refl, ap, ◌∙◌, sym, arith}
 use Rattle.std.proofs.lemmas.List.{get_or-drop, drop-drop, length-drop}
 use Rattle.std.specs.Str.{continuation_len}
-use Rattle.std.specs.Option.{option_map_or}
 use Rattle.gv_tokens.specs.Chars.{first_char, is_letter_or_digit}
 use Rattle.gv_tokens.specs.Words.{letters_run}
 

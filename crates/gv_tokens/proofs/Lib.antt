@@ -10,3 +10,4 @@ pub mod RuneFronts
 pub mod SignFronts
 pub mod Values
 pub mod WordFronts
+mod Worked

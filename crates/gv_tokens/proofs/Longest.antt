@@ -1,7 +1,6 @@
 -- The piece that a text begins with by its form is the longest.
-use Rattle.std.proofs.Common.{◌≡◌, ◌≤◌, ◌<◌, ◌+◌, ◌++◌, ◌⊎◌, inl, inr, ℕ, zero, suc, List, [], ◌∷◌, length, take, drop, refl, sym, ap, ◌∙◌, arith}
+use Rattle.std.proofs.Common.{◌≡◌, ◌≤◌, ◌<◌, ◌++◌, inl, inr, ℕ, List, length, take, drop, refl, sym, ap, ◌∙◌, arith}
 use Rattle.std.proofs.lemmas.List.{take_at, take-append-drop, length-take-le}
-use Rattle.gv_tokens.specs.declared.form.Form.{Form}
 use Rattle.gv_tokens.specs.Forms.{form_of}
 use Rattle.gv_tokens.specs.Pieces.{Piece, IsPiece, Begins, IsLongest, BeginsWithNone, length_of}
 use Rattle.gv_tokens.proofs.FormFronts.{form_fronts, length_fronts}

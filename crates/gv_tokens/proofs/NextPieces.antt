@@ -1,11 +1,11 @@
 -- The piece or the fault at the front of a text, by its form and length.
-use Rattle.std.proofs.Common.{◌≡◌, ◌≤◌, ◌<◌, ◌+◌, ◌++◌, ℕ, List, [], length, take, drop, Option, Some, None, refl, sym, ap, subst, ◌∙◌, arith}
+use Rattle.std.proofs.Common.{◌≡◌, ◌≤◌, ◌<◌, ◌+◌, ◌++◌, ℕ, List, length, take, drop, Option, Some, None, refl, sym, ap, subst, ◌∙◌, arith}
 use Rattle.std.proofs.lemmas.List.{length-take-le}
 use Rattle.gv_base.specs.declared.answers.Code.{Code}
 use Rattle.gv_base.specs.declared.answers.Code.TheVariants.{BadChar}
 use Rattle.gv_base.specs.declared.token.Token.{Token}
 use Rattle.gv_tokens.specs.declared.form.Form.{Form}
-use Rattle.gv_tokens.specs.Faults.{fault_of, IsRight, FaultsAt, wrong, stray}
+use Rattle.gv_tokens.specs.Faults.{fault_of, FaultsAt, wrong, stray}
 use Rattle.gv_tokens.specs.Forms.{form_of}
 use Rattle.gv_tokens.specs.Layout.{kind_of, ends_line, tokens_for, pending_for}
 use Rattle.gv_tokens.specs.Pieces.{Piece, IsLongest, length_of}

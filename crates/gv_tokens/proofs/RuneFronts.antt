@@ -1,5 +1,5 @@
 -- The rune literal that a text begins with shows in a front that holds it, and no other does.
-use Rattle.std.proofs.Common.{◌≡◌, ◌≤◌, ◌<◌, ◌+◌, ◌&&◌, ◌⊎◌, inl, inr, ℕ, zero, suc, Bool, true, false, not, cond, ◌||◌, eqb, Option, Some, None, is_some, List, [], ◌∷◌, length, take, drop, min, slice_index, refl, sym, ap, ◌∙◌, arith}
+use Rattle.std.proofs.Common.{◌≡◌, ◌≤◌, ◌<◌, ◌+◌, ◌&&◌, ◌⊎◌, inl, inr, ℕ, zero, suc, Bool, true, false, not, cond, ◌||◌, eqb, Option, is_some, List, [], ◌∷◌, length, take, drop, slice_index, refl, sym, ap, ◌∙◌, arith}
 use borrow.Author.Tests.{eqb-true}
 use Rattle.std.proofs.lemmas.List.{take-take, length-take, get_or-take, get_or-drop, drop_all}
 use Rattle.std.specs.Char.{is_digit}

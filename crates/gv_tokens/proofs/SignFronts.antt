@@ -1,5 +1,5 @@
 -- The longest sign of a text shows in a front that holds it.
-use Rattle.std.proofs.Common.{◌≡◌, ◌≤◌, ◌<◌, ◌+◌, ℕ, zero, suc, Bool, true, false, cond, List, [], ◌∷◌, length, take, refl, arith}
+use Rattle.std.proofs.Common.{◌≡◌, ◌≤◌, ℕ, zero, suc, Bool, true, false, cond, [], ◌∷◌, refl, arith}
 use Rattle.gv_tokens.specs.Signs.{is_sign, sign_length}
 use Rattle.gv_tokens.proofs.Fronts.{KeepsFronts}
 

@@ -1,10 +1,10 @@
 -- The word that a text begins with shows in a front that holds it.
-use Rattle.std.proofs.Common.{◌≡◌, ◌≤◌, ◌<◌, ◌+◌, ◌⊎◌, inl, inr, ◌||◌, ℕ, zero, suc, Bool, true, false, cond, ltb, lt-ltb, Option, Some, None, List, [], ◌∷◌, length, take, drop, min, slice_index, refl, sym, ap, ◌∙◌, arith}
+use Rattle.std.proofs.Common.{◌≡◌, ◌≤◌, ◌<◌, ◌+◌, ◌⊎◌, inl, inr, ℕ, zero, suc, Bool, true, false, cond, ltb, lt-ltb, Option, Some, None, List, [], ◌∷◌, length, take, refl, ap, ◌∙◌, arith}
 use borrow.Author.Tests.{ltb-true, ltb-false}
 use Rattle.std.proofs.lemmas.List.{take-take, length-take}
 use Rattle.std.specs.Option.{option_map_or}
 use Rattle.std.specs.Str.{continuation_len}
-use Rattle.gv_tokens.specs.Chars.{first_char, char_of, begins_with, is_letter, is_letter_or_digit, is_digit_category}
+use Rattle.gv_tokens.specs.Chars.{first_char, char_of, begins_with, is_letter, is_letter_or_digit}
 use Rattle.gv_tokens.specs.Words.{letters_run, word_length}
 use Rattle.gv_tokens.proofs.Fronts.{one_step}
 use Rattle.gv_tokens.proofs.Letters.{letters_skip}

@@ -1,5 +1,5 @@
 -- The faults of pieces.
-use Rattle.std.specs.Prelude.{◌≡◌, ℕ, ◌-◌, Bool, not, ◌&&◌, ◌==◌, ◌<◌, nat_lt, if◌then◌else◌, Option, Some, None, option_map, List, length, position, slice_index}
+use Rattle.std.specs.Prelude.{◌≡◌, ℕ, ◌-◌, Bool, ◌&&◌, ◌==◌, ◌<◌, nat_lt, if◌then◌else◌, Option, Some, None, option_map, List, length, position, slice_index}
 use Rattle.gv_base.specs.declared.answers.Code.{Code}
 use Rattle.gv_base.specs.declared.answers.Code.TheVariants.{BadChar, OpenComment, OpenText, NotInProfile}
 use Rattle.gv_tokens.specs.declared.form.Form.{Form}

@@ -1,5 +1,5 @@
 -- The form of the piece of a text that begins at a place.
-use Rattle.std.specs.Prelude.{ℕ, Bool, ◌||◌, ◌&&◌, ◌==◌, if◌then◌else◌, List, [], ◌∷◌, slice_index}
+use Rattle.std.specs.Prelude.{ℕ, ◌||◌, ◌&&◌, ◌==◌, if◌then◌else◌, List, [], ◌∷◌, slice_index}
 use Rattle.gv_tokens.specs.declared.form.Form.{Form}
 use Rattle.gv_tokens.specs.declared.form.Form.TheVariants.{Blank, LineComment, BlockComment, Word, Number, Text, RawText, Rune, Sign}
 use Rattle.gv_tokens.specs.Bytes.{is_blank, is_quote, is_backquote, is_decimal}

@@ -1,5 +1,5 @@
 -- Which tokens a text has, and where it is refused.
-use Rattle.std.specs.Prelude.{◌≡◌, ℕ, ◌+◌, ◌<◌, if◌then◌else◌, Option, None, Result, Ok, Err, List, [], ◌∷◌, length, take, drop, Vec}
+use Rattle.std.specs.Prelude.{◌≡◌, ℕ, ◌+◌, ◌<◌, if◌then◌else◌, None, Result, Ok, Err, List, [], ◌∷◌, length, take, drop, Vec}
 use Rattle.std.specs.List.{AllByRecursion}
 use Rattle.std.specs.Str.{IsUtf8, IsValidUpTo, bytes_eq}
 use Rattle.std.specs.declared.alloc.Global.{Global}

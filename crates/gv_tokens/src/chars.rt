@@ -26,7 +26,8 @@ pub fn char_len(lead: u8) -> usize
 #[tactic(auto, unfolding(crate::specs::Chars::first_char))]
 pub fn first_char(text: &[u8]) -> Option<char>
     ensures value { result ≡ spec.first_char text.now }
-    ensures within { OnSome result (1 + continuation_len (slice_index text.now 0) ≤ length text.now) }
+    ensures within { OnSome result
+        (1 + continuation_len (slice_index text.now 0) ≤ length text.now) }
 {
     match text {
         [] => None,

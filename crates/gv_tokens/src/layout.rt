@@ -28,6 +28,7 @@ fn sign_kind(sign: &[u8]) -> Kind
     }
 }
 
+// The keywords of up to five letters after which no semicolon is inserted.
 fn is_short_keyword(word: &[u8]) -> bool
     ensures { result ≡ is_among spec.short_keywords word.now }
 {
@@ -50,6 +51,7 @@ fn is_short_keyword(word: &[u8]) -> bool
     }
 }
 
+// The longer ones.
 fn is_long_keyword(word: &[u8]) -> bool
     ensures { result ≡ is_among spec.long_keywords word.now }
 {
@@ -112,8 +114,10 @@ pub fn lay(
     bytes: &[u8],
 ) -> Result<Option<u32>, NoMemory>
     requires { at + length bytes.now < 2 ^ 32 - 1 }
-    ensures tokens { OnOk result (out.new.items ≡ out.old.items ++ spec.tokens_for (spec.kind_of form bytes.now) at pending bytes.now) }
-    ensures pending { IfOk result (λ now. now ≡ spec.pending_for (spec.kind_of form bytes.now) (spec.ends_line form bytes.now) at pending bytes.now) }
+    ensures tokens { OnOk result (out.new.items
+        ≡ out.old.items ++ spec.tokens_for (spec.kind_of form bytes.now) at pending bytes.now) }
+    ensures pending { IfOk result (λ now. now
+        ≡ spec.pending_for (spec.kind_of form bytes.now) (spec.ends_line form bytes.now) at pending bytes.now) }
 {
     let end = at + bytes.len() as u32;
     match kind_of(form, bytes) {

@@ -1,4 +1,7 @@
-//! Tokens of a Go text.
+//! Tokens of a Go text: the characters' stage of reading a package.
+//!
+//! A text is cut into pieces: white space, comments and tokens. `form` tells what a piece is by its first bytes, `pieces`
+//! how long it is, `faults` whether it is right, and `layout` which tokens it gives. `reading` has the one pass.
 #![tactic(auto)]
 
 mod bytes;

@@ -256,7 +256,8 @@ fn is_float(base: Base, whole: &[u8], fraction: &[u8], exponent: &[u8]) -> bool
 }
 
 fn is_other(base: Base, parts: &Parts<'_>) -> bool
-    ensures { result ≡ spec.is_other base parts.now.whole.now parts.now.fraction.now parts.now.exponent.now parts.now.imaginary.now }
+    ensures { result ≡ spec.is_other base parts.now.whole.now parts.now.fraction.now
+        parts.now.exponent.now parts.now.imaginary.now }
 {
     if !parts.fraction.is_empty() || !parts.exponent.is_empty() {
         return is_float(
@@ -291,7 +292,8 @@ struct Parts<'a> {
 }
 
 fn parts_fault(base: Base, parts: &Parts<'_>) -> Option<Code>
-    ensures { result ≡ spec.parts_fault base parts.now.whole.now parts.now.fraction.now parts.now.exponent.now parts.now.imaginary.now }
+    ensures { result ≡ spec.parts_fault base parts.now.whole.now parts.now.fraction.now
+        parts.now.exponent.now parts.now.imaginary.now }
 {
     if is_integer(base, parts.whole)
         && parts.fraction.is_empty()

@@ -78,6 +78,7 @@ fn tokens_of(alloc: Global, text: &[u8]) -> Result<Vec<Token>, Stop>
     requires { length text.now < 2 ^ 32 - 1 }
     ensures { IsFound text.now result }
 {
+    // Each token but one last semicolon has a byte of the text: its own, or the newline that inserts it.
     let mut out = Vec::with_capacity(alloc, text.len() + 1)?;
     let mut pending = None;
     let mut at = mark_len(text);
@@ -111,17 +112,20 @@ fn utf8_end(text: &[u8]) -> Option<u32>
 /// The text is cut into white space, comments and tokens, each the longest that can start at its place, after a byte
 /// order mark, where it begins with one. A refusal stands at the text's least fault, with the lower code at one place:
 /// `BadUtf8`, `BadChar`, `OpenComment`, `OpenText`, `BadNumber`, and `NotInProfile` for literals of Go that are outside
-/// of this project's profile. (The Go specification, sections "Source code representation" and "Lexical elements".)
+/// of this project's profile. `NoMemory` comes where memory runs out. (The Go specification, sections "Source code
+/// representation" and "Lexical elements", and this project's own.)
 pub fn tokens(alloc: Global, text: &[u8]) -> Result<Vec<Token>, Refusal>
     requires { length text.now < 2 ^ 32 - 1 }
 
     // What is read is so, and what is so is read.
     ensures read { IfOk result (λ read. spec.IsRead text.now read.items) }
-    ensures only { (tokens : Seq AnyToken) → spec.IsRead text.now tokens → spec.IsReadAs tokens result }
+    ensures only { (tokens : Seq AnyToken) → spec.IsRead text.now tokens
+        → spec.IsReadAs tokens result }
 
     // A refusal stands at the first fault, and where there is one, the text is refused there.
     ensures refused { IfErr result (spec.Refuses text.now) }
-    ensures fault { (at : ℕ) (code : AnyCode) → spec.IsRefused text.now at code → spec.IsRefusedAs (place_at text.now at) code result }
+    ensures fault { (at : ℕ) (code : AnyCode) → spec.IsRefused text.now at code
+        → spec.IsRefusedAs (place_at text.now at) code result }
 {
     judged(text, tokens_of(alloc, text), utf8_end(text))
 }

@@ -4,7 +4,7 @@
 //! semicolon as `~`, and a space stands after each.
 
 use crate::reading::tokens;
-use gv_base::{Kind, Place, Refusal, Token};
+use gv_base::{Kind, Place, Refusal, Token, place_of};
 use std::alloc::Global;
 use std::process::Abort;
 use std::test::Fail;
@@ -393,4 +393,26 @@ fn lines_end_with_semicolons(rt: HostRuntime) -> Result<(), Fail> {
 #[test]
 fn bad_characters_and_marks(rt: HostRuntime) -> Result<(), Fail> {
     check(&rt, rt.alloc(), &CHARS)
+}
+
+#[test]
+fn places_count_bytes_up_to_the_end(rt: HostRuntime) {
+    let text = b"a\xCE\xBBb\n\r\n\xE2\x82\xACx".as_slice();
+    let places = [
+        (0, 1, 1),
+        (1, 1, 2),
+        (3, 1, 4),
+        (4, 1, 5),
+        (5, 2, 1),
+        (6, 2, 2),
+        (7, 3, 1),
+        (10, 3, 4),
+        (11, 3, 5),
+    ];
+    for (at, line, column) in places {
+        if at <= 11 {
+            assert_eq!(rt; place_of(text, at), Place { line, column });
+        }
+    }
+    assert_eq!(rt; place_of(b"", 0), Place { line: 1, column: 1 });
 }

@@ -1,6 +1,3 @@
-use Rattle.std.proofs.Common.{◌≡◌, ◌<◌, length, take, refl, sym, ap, subst, ◌∙◌, arith}
-use Rattle.gv_tokens.specs.Faults.{FaultsAt, wrong, stray}
-use Rattle.gv_tokens.proofs.Longest.{own_length, own_piece, longest_piece, no_piece}
 use Rattle.gv_tokens.proofs.NextPieces.{next_right, next_wrong, next_stray}
 use Rattle.gv_tokens.proofs.reading.next_piece.Goals as goal
 
