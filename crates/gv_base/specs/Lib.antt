@@ -2,3 +2,4 @@ pub mod Codes
 pub mod formers
 pub mod Outside
 pub mod Places
+pub mod Tokens

@@ -44,7 +44,7 @@ pub record HasReadTo (text : List ℕ) (at : ℕ) (pending : Option ℕ) (out : 
 pub none_read : (text : List ℕ) → mark_length text ≤ length text → HasReadTo text (mark_length text) None []
 none_read text h = record { pieces = []; within = h; cut = refl; right = tt; rest = λ more. refl }
 
-has_its_bytes : (p : Piece) (text : List ℕ) → Begins p text → length p.bytes ≤ length text
+pub has_its_bytes : (p : Piece) (text : List ℕ) → Begins p text → length p.bytes ≤ length text
 has_its_bytes p text b = omega (arith, ap length b, length-append p.bytes (drop (length p.bytes) text))
 
 pub one_more_read : (text : List ℕ) (at : ℕ) (pending : Option ℕ) (out : List Token) (p : Piece) → HasReadTo text at pending out

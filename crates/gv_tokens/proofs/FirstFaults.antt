@@ -4,6 +4,7 @@ use Rattle.std.specs.Prelude.{Vec}
 use Rattle.std.specs.Str.{IsUtf8, IsValidUpTo}
 use Rattle.std.proofs.lemmas.Str.{utf8_valid_len-IsUtf8, utf8_valid_len-IsValidUpTo}
 use Rattle.std.specs.declared.alloc.Global.{Global}
+use Rattle.gv_base.specs.Codes.{code_number}
 use Rattle.gv_base.specs.Places.{place_at}
 use Rattle.gv_base.specs.declared.answers.Code.{Code}
 use Rattle.gv_base.specs.declared.answers.Code.TheVariants as codes
@@ -12,7 +13,7 @@ use Rattle.gv_base.specs.declared.answers.Refusal.TheVariants as refusal
 use Rattle.gv_base.specs.declared.token.Token.{Token}
 use Rattle.gv_tokens.specs.Faults.{FaultsAt}
 use Rattle.gv_tokens.specs.Layout.{laid}
-use Rattle.gv_tokens.specs.Reading.{mark_length, body_of, HasTokens, IsRead, HasWrongPiece, HasFault, not_utf8, wrong_piece, number_of, ComesFirst, earlier, lower, same, IsRefused, IsReadAs, IsRefusedAs, Refuses}
+use Rattle.gv_tokens.specs.Reading.{mark_length, body_of, HasTokens, IsRead, HasWrongPiece, HasFault, not_utf8, wrong_piece, ComesFirst, earlier, lower, same, IsRefused, IsReadAs, IsRefusedAs, Refuses}
 use Rattle.gv_tokens.proofs.Cuts.{one_cut, end_is_stuck, fault_is_stuck, fault_is_within, one_fault}
 use Rattle.gv_tokens.proofs.WordFronts.{which}
 
@@ -66,7 +67,7 @@ wrong_before_end text at code end w v l = record { fault = wrong_piece w; first 
     first other other_code (not_utf8 u e) = earlier (omega (arith, one_end text end other v u))
     first other other_code (wrong_piece g) = let one = one_wrong text at other code other_code w g in same one.0 one.1
 
-lowest : (code : Code) → (codes.BadUtf8 ≡ code) ⊎ (1 < number_of code)
+lowest : (code : Code) → (codes.BadUtf8 ≡ code) ⊎ (1 < code_number code)
 lowest codes.BadUtf8 = inl refl
 lowest _ = inr (omega arith)
 

@@ -8,6 +8,7 @@ pub mod Longest
 pub mod NextPieces
 pub mod RuneFronts
 pub mod SignFronts
+pub mod Spans
 pub mod Values
 pub mod WordFronts
 mod Worked

@@ -3,6 +3,7 @@ use Rattle.std.specs.Prelude.{◌≡◌, ℕ, ◌+◌, ◌<◌, if◌then◌else
 use Rattle.std.specs.List.{AllByRecursion}
 use Rattle.std.specs.Str.{IsUtf8, IsValidUpTo, bytes_eq}
 use Rattle.std.specs.declared.alloc.Global.{Global}
+use Rattle.gv_base.specs.Codes.{code_number}
 use Rattle.gv_base.specs.Places.{place_at}
 use Rattle.gv_base.specs.declared.answers.Code.{Code}
 use Rattle.gv_base.specs.declared.answers.Code.TheVariants as codes
@@ -52,37 +53,10 @@ pub data HasFault (text : List ℕ) (at : ℕ) (code : Code) : Type 0 where
   not_utf8 : IsValidUpTo text at → code ≡ codes.BadUtf8 → HasFault text at code
   wrong_piece : HasWrongPiece text at code → HasFault text at code
 
--- the codes' order
-abbrev pub number_of : Code → ℕ
-number_of codes.BadUtf8 = 1
-number_of codes.BadChar = 2
-number_of codes.OpenComment = 3
-number_of codes.OpenText = 4
-number_of codes.BadNumber = 5
-number_of codes.Unexpected = 6
-number_of codes.NotInProfile = 7
-number_of codes.TooDeep = 8
-number_of codes.EndOfText = 9
-number_of codes.Undeclared = 10
-number_of codes.Twice = 11
-number_of codes.WrongType = 12
-number_of codes.WrongCount = 13
-number_of codes.NotAssignable = 14
-number_of codes.MissingReturn = 15
-number_of codes.Captured = 16
-number_of codes.ConstTooLarge = 17
-number_of codes.NoRecover = 18
-number_of codes.TooLong = 19
-number_of codes.Interface = 20
-number_of codes.Disks = 21
-number_of codes.TooMany = 22
-number_of codes.TooManyCells = 23
-number_of codes.TooManyEvents = 24
-
 -- one fault comes first: its place is less, or at one place its code's number is, or both are the same
 pub data ComesFirst (at : ℕ) (code : Code) (other : ℕ) (other_code : Code) : Type 0 where
   earlier : at < other → ComesFirst at code other other_code
-  lower : at ≡ other → number_of code < number_of other_code → ComesFirst at code other other_code
+  lower : at ≡ other → code_number code < code_number other_code → ComesFirst at code other other_code
   same : at ≡ other → code ≡ other_code → ComesFirst at code other other_code
 
 -- a text is refused at its first fault

@@ -2,6 +2,7 @@
 
 ghost use Rattle.std.specs.Prelude.{◌≡◌, ◌+◌, ◌-◌, ◌^◌, ◌<◌, ◌≤◌, ℕ, List as Seq, length, IfOk, IfErr};
 ghost use Rattle.gv_base.specs.Places.{place_at};
+ghost use Rattle.gv_base.specs.Tokens.{AreSpans};
 ghost use Rattle.gv_base.specs.declared.answers.Code.{Code as AnyCode};
 ghost use Rattle.gv_base.specs.declared.answers.Refusal.TheVariants.{At as refused_at};
 ghost use Rattle.gv_base.specs.declared.token.Token.{Token as AnyToken};
@@ -121,6 +122,9 @@ pub fn tokens(alloc: Global, text: &[u8]) -> Result<Vec<Token>, Refusal>
     ensures read { IfOk result (λ read. spec.IsRead text.now read.items) }
     ensures only { (tokens : Seq AnyToken) → spec.IsRead text.now tokens
         → spec.IsReadAs tokens result }
+
+    // The spans stand in order within the text.
+    ensures spans { IfOk result (λ read. AreSpans 0 (length text.now) read.items) }
 
     // A refusal stands at the first fault, and where there is one, the text is refused there.
     ensures refused { IfErr result (spec.Refuses text.now) }
