@@ -1,3 +1,5 @@
 pub mod Codes
 pub mod formers
 pub mod Outside
+pub mod Places
+pub mod Tokens

@@ -6,19 +6,24 @@ mod list;
 mod memory;
 mod name;
 mod outside;
+mod places;
 mod real;
 mod reason;
 mod small;
 mod sure;
-#[cfg(test)]
-mod tests;
+mod token;
 
 pub use answers::{Code, NoMemory, Place, Refusal};
 pub use list::List;
 pub use memory::{Held, MemFiles, MemSink};
 pub use name::Name;
 pub use outside::{FetchFail, Files, PutFail, Sink};
+pub use places::place_of;
 pub use real::{DiskFiles, StdSink};
 pub use reason::Reason;
 pub use small::{Part, Small, SmallOp, Turn};
 pub use sure::{SureFiles, SureSink};
+pub use token::{Kind, Token};
+
+#[cfg(test)]
+mod tests;

@@ -1,0 +1,15 @@
+pub mod Bytes
+pub mod Chars
+pub mod Comments
+pub mod Faults
+pub mod Forms
+pub mod Layout
+pub mod Lengths
+pub mod Numbers
+pub mod Pieces
+pub mod Reading
+pub mod Runes
+pub mod Scanning
+pub mod Signs
+pub mod Texts
+pub mod Words

@@ -1,0 +1,32 @@
+-- Operators and punctuation: those of the Go specification, section "Operators and punctuation", without `~`.
+use Rattle.std.specs.Prelude.{ℕ, Bool, ◌||◌, if◌then◌else◌, List, [], ◌∷◌, length, take, codes}
+use Rattle.std.specs.List.{list_any}
+use Rattle.std.specs.Str.{bytes_eq}
+
+abbrev pub is_among : List (List ℕ) → List ℕ → Bool
+is_among texts text = list_any (bytes_eq text) texts
+
+abbrev pub signs_of_one : List (List ℕ)
+signs_of_one =
+    codes "(" ∷ codes ")" ∷ codes "[" ∷ codes "]" ∷ codes "{" ∷ codes "}" ∷ codes "," ∷ codes ";" ∷ codes "." ∷ codes ":"
+    ∷ codes "=" ∷ codes "!" ∷ codes "<" ∷ codes ">" ∷ codes "+" ∷ codes "-" ∷ codes "*" ∷ codes "/" ∷ codes "%"
+    ∷ codes "&" ∷ codes "|" ∷ codes "^" ∷ []
+
+abbrev pub signs_of_two : List (List ℕ)
+signs_of_two =
+    codes ":=" ∷ codes "==" ∷ codes "!=" ∷ codes "<=" ∷ codes ">=" ∷ codes "&&" ∷ codes "||" ∷ codes "++" ∷ codes "--"
+    ∷ codes "<-" ∷ codes "<<" ∷ codes ">>" ∷ codes "&^" ∷ codes "+=" ∷ codes "-=" ∷ codes "*=" ∷ codes "/=" ∷ codes "%="
+    ∷ codes "&=" ∷ codes "|=" ∷ codes "^=" ∷ []
+
+abbrev pub signs_of_three : List (List ℕ)
+signs_of_three = codes "<<=" ∷ codes ">>=" ∷ codes "&^=" ∷ codes "..." ∷ []
+
+unfoldable pub is_sign : List ℕ → Bool
+is_sign text = is_among signs_of_one text || (is_among signs_of_two text || is_among signs_of_three text)
+
+-- the length of the longest sign that a text begins with, or 0
+unfoldable pub sign_length : List ℕ → ℕ
+sign_length text =
+    if is_sign (take 3 text) then length (take 3 text)
+    else (if is_sign (take 2 text) then length (take 2 text)
+    else (if is_sign (take 1 text) then length (take 1 text) else 0))

@@ -1,0 +1,41 @@
+//! Comments as pieces.
+
+ghost use Rattle.std.specs.Prelude.{◌≡◌, ◌≤◌, length};
+ghost use Rattle.gv_tokens.specs.Comments as spec;
+
+use crate::bytes::{Class, begins_with, run_len};
+
+/// How many bytes a comment `//` at the front of a text has.
+pub fn line_len(text: &[u8]) -> usize
+    ensures value { result ≡ spec.line_length text.now }
+    ensures within { result ≤ length text.now }
+{
+    match text {
+        [b'/', b'/', rest @ ..] => 2 + run_len(rest, Class::InLineComment),
+        _ => 0,
+    }
+}
+
+/// How many bytes a comment `/*` at the front of a text has.
+pub fn block_len(text: &[u8]) -> usize
+    ensures value { result ≡ spec.block_length text.now }
+    ensures within { result ≤ length text.now }
+{
+    match text {
+        [b'/', b'*', rest @ ..] => 2 + block_rest(rest),
+        _ => 0,
+    }
+}
+
+#[tactic(auto, unfolding(crate::specs::Comments::block_rest))]
+fn block_rest(text: &[u8]) -> usize
+    ensures value { result ≡ spec.block_rest text.now }
+    ensures within { result ≤ length text.now }
+{
+    for (i, byte) in text.iter().enumerate() {
+        if *byte == b'*' && begins_with(&text[i + 1..], b'/') {
+            return i + 2;
+        }
+    }
+    text.len()
+}
