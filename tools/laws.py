@@ -1,45 +1,71 @@
-"""Prints, for each rule, the skeletons of the two laws, and says which of them stand so in the proofs (names of variables aside)."""
-import re, sys
-src = open("sample.py").read().split("open(sys.argv[1]")[0]
-exec(src)
-MARK = {0: "OPEN", 1: "SAVE", 2: "RESTORE"}
+"""Prints the skeletons of the two laws of a language."""
 
-def law2(row):
-    """The pattern of a rule's case: what stands for its symbols."""
-    out = "none"
-    for k, x in reversed(row):
-        out = {"A": "(acted %s)", "T": "(taken _ _ %s)", "N": "(means _ %s)"}[k] % out
-    return out[1:-1] if out.startswith("(") else out
+from emit import act_constant, class_constant, name_constant, rule_constant, set_constant
 
-def law1(rule, row, sets):
-    """The chain of a rule's symbols, up to its first name: what follows a name is that name's continuation."""
-    out = ["ru %d refl" % rule]
-    i = 0
-    while i < len(row):
-        k, x = row[i]
-        if k == "A" and x == 0 and row[i + 1][0] == "T":
-            i += 1; out.append("op %d" % row[i][1])
-        elif k == "T": out.append("tk %d" % x)
-        elif k == "A": out.append({1: "sv", 2: "rs"}.get(x, "ac %d refl" % x))
-        else: break
-        i += 1
+
+def skeletons(grammar):
+    out = "-- Law 1: the chain of each rule's symbols up to its first name, whose own law goes on from there.\n"
+    for rule in grammar.rules:
+        out += f"-- {rule.text()}\n{chain(grammar, rule)}\n"
+    out += "\n-- Law 2: what each name means, in order.\nmeanings =\n"
+    for at, name in enumerate(grammar.names):
+        out += f"    {'∷ ' if at else ''}?  -- {name}\n"
+    out += "    ∷ []\n"
+    for rule in grammar.rules:
+        lemma = f"{snake(rule.name)}_{snake(rule.label)}"
+        out += f"\n-- {rule.text()}\n{lemma} : Keeps {rule_constant(rule)} {name_constant(rule.name)}\n"
+        out += f"{lemma} _ {pattern(grammar, rule)} n = ?\n"
+    lemmas = [f"{snake(rule.name)}_{snake(rule.label)}" for rule in grammar.rules]
+    rules = "tt"
+    for lemma in reversed(lemmas):
+        rules = f"({lemma}, {rules})"
+    out += f"\nall_rules : RulesMean {grammar.language}_tables Token class_of M {grammar.language}_tables.names 0\nall_rules = {rules}\n"
     return out
 
-sound = re.sub(r"\{ts = \w+\} ", "", open("../crates/grammar_sample/proofs/Sound.antt").read())
-complete = open("../crates/grammar_sample/proofs/Complete.antt").read()
-good1 = good2 = 0
-for r, (name, row) in enumerate(g.R):
-    p = law2(row)
-    m = re.search(r"^b%d _ (.*?) (?:n\b.*)?=" % r, sound, re.M)
-    have = m.group(1) if m else ""
-    norm = re.sub(r"taken \w+ \w+ ", "taken _ _ ", have); norm = re.sub(r"means \w+ ", "means _ ", norm).strip()
-    if norm.startswith("(") and norm.endswith(")"): norm = norm[1:-1]
-    ok2 = norm == p
-    c = law1(r, row, g.set_members)
-    # a look at the end stands behind `ru 2`, `ru 24` ..
-    rx = re.escape(c[0]) + "".join(r" \((?:⊎_elim\s+\(λ \(j : Is \d+ t\)\. |λ \w+\. )?" + (re.escape(x) if not x[:2] in ("tk", "op") else re.escape(x) + r" \d+ \w+ refl") for x in c[1:])
-    rx = rx.replace(r"\ ", " ")
-    ok1 = re.search(rx, complete) is not None
-    good1 += ok1; good2 += ok2
-    print(r, g.rules[r][0], "=", " ".join(g.rules[r][1])); print("   law 1:", " (".join(c), "" if ok1 else "  -- not so"); print("   law 2: b%d _ (%s)" % (r, p), "" if ok2 else "  -- not so: " + norm)
-print("law 1:", good1, "law 2:", good2, "of", len(g.R))
+
+def snake(word):
+    return "".join("_" + c.lower() if c.isupper() and at else c.lower() for at, c in enumerate(word))
+
+
+def token_step(word, grammar, opens):
+    members = grammar.sets[word]
+    one = class_constant(members[0]) if len(members) == 1 else "?"
+    return f"{opens} {set_constant(word)} {one} i refl"
+
+
+def chain(grammar, rule):
+    """How law 1 goes through a rule: `op` for a token that opens, `sv` and `rs` for marks, `ac` for acts."""
+    out = [f"ru {rule_constant(rule)} refl"]
+    words = list(rule.words)
+    while words:
+        word = words.pop(0)
+        if word == "{OPEN}" and words and not words[0].startswith("{"):
+            out.append(token_step(words.pop(0), grammar, "op"))
+        elif word == "{OPEN_BEFORE}" and words:
+            out[0] = f"late_rule {rule_constant(rule)} refl"
+            out.append(token_step(words.pop(0), grammar, "late_mark"))
+        elif word in ("{SAVE}", "{RESTORE}"):
+            out.append("sv" if word == "{SAVE}" else "rs")
+        elif word.startswith("{"):
+            out.append(f"ac {act_constant(word[1:-1])} refl")
+        elif word in grammar.names:
+            out.append(f"{snake(word)}_reads d ?")
+            break
+        else:
+            out.append(token_step(word, grammar, "tk"))
+    else:
+        out.append("k")
+    return " (".join(out) + ")" * (len(out) - 1)
+
+
+def pattern(grammar, rule):
+    """What law 2 matches for a rule: what stands for each of its symbols."""
+    out = "none"
+    for word in reversed(rule.words):
+        if word.startswith("{"):
+            out = f"(acted {out})"
+        elif word in grammar.names:
+            out = f"(means {{ts = ts}} d {out})"
+        else:
+            out = f"(taken t i {out})"
+    return out

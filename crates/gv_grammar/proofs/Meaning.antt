@@ -1,9 +1,12 @@
 -- What holds along each rule holds of all that is derived.
-use Rattle.std.proofs.Common.{◌≡◌, ℕ, suc, zero, ◌+◌, true, List, [], ◌∷◌, ◌++◌, Some, Option, refl, sym, ap, subst, ◌∙◌, arith, append_assoc}
+use Rattle.std.proofs.Common.{◌≡◌, ℕ, suc, zero, ◌+◌, Bool, true, false, ◌||◌, eqb, ◌⊎◌, inl, inr, ⊎_elim, List, [], ◌∷◌, ◌++◌, Some, refl, sym, ap, subst, ◌∙◌, arith, append_assoc}
+use Rattle.std.proofs.lemmas.Bool.Decides.{nat_tests}
+use Rattle.gv_grammar.specs.Text.{Placed, tokens_of}
+use Rattle.gv_grammar.proofs.Tests.{either}
 use Rattle.std.specs.Prelude.{slice_get, map}
-use Rattle.gv_grammar.specs.declared.Symbol.{Symbol}
-use Rattle.gv_grammar.specs.declared.Symbol.TheVariants.{Token, Name, Act}
-use Rattle.gv_grammar.specs.declared.Step.{Step}
+use Rattle.gv_grammar.specs.declared.symbols.Symbol.{Symbol}
+use Rattle.gv_grammar.specs.declared.symbols.Symbol.TheVariants.{Token, Name, Act}
+use Rattle.gv_grammar.specs.declared.steps.Step.{Step}
 use Rattle.gv_grammar.specs.Derivation.{Tables, Derives, done, token, act, named, symbols_of, takes}
 
 -- a list of tokens by these symbols, where M says what the names mean
@@ -50,3 +53,38 @@ module _ (g : Tables) (X : Type 0) (class_of : X → ℕ) (M : ℕ → List X �
       let z : 0 + rule ≡ rule = omega arith in
       let m : M name ts = rule_means g.names 0 rule name h n ts (subst (λ (r : ℕ). Meant g X class_of M (symbols_of g r) ts) (sym z) a) in
       subst (λ (ws : List X). Meant g X class_of M (Name name ∷ more) ws) (sym split) (means m b)
+
+-- the tokens spell something
+pub record Made {X E : Type 0} (P : E → List (Placed X) → Type 0) (us : List X) : Type 0 where
+  pub tree : E
+  pub placed : List (Placed X)
+  pub same : tokens_of placed ≡ us
+  pub spelled : P tree placed
+
+-- a tree of these tokens
+pub mk : {X E : Type 0} (P : E → List (Placed X) → Type 0) {us : List X} (e : E) (ps : List (Placed X)) → P e ps → tokens_of ps ≡ us → Made P us
+mk P e ps h q = record { tree = e; placed = ps; same = q; spelled = h }
+
+-- the same at an equal list
+pub at : {X E : Type 0} {P : E → List (Placed X) → Type 0} {xs ys : List X} → xs ≡ ys → Made P xs → Made P ys
+at e m = record { tree = m.tree; placed = m.placed; same = m.same ∙ e; spelled = m.spelled }
+
+-- what a name may mean: a phrase at any level, or what goes on after a phrase of another kind
+abbrev pub Phrase : {X E : Type 0} → (ℕ → E → List (Placed X) → Type 0) → List X → Type 0
+Phrase P us = (n : ℕ) → Made (P n) us
+
+abbrev pub Tail : {X D E : Type 0} → (ℕ → D → List (Placed X) → Type 0) → (ℕ → E → List (Placed X) → Type 0) → List X → Type 0
+Tail {X} {D} Q P us = (n : ℕ) (x : D) (xs : List (Placed X)) → Q n x xs → Made (P n) (tokens_of xs ++ us)
+
+-- the meaning of the name with this number
+abbrev pub meaning_at : {X : Type 0} → List (List X → Type 0) → ℕ → List X → Type 0
+meaning_at [] n us = Unit {0}
+meaning_at (m ∷ ms) zero us = m us
+meaning_at (m ∷ ms) (suc n) us = meaning_at ms n us
+
+-- a token is of the classes of a set that was tested
+pub one_class : (m k : ℕ) → (eqb m k || false) ≡ true → k ≡ m
+one_class m k h = grind (arith, nat_tests)
+
+pub more_classes : (m k : ℕ) (rest : Bool) → (eqb m k || rest) ≡ true → (k ≡ m) ⊎ (rest ≡ true)
+more_classes m k rest h = ⊎_elim (λ (i : eqb m k ≡ true). let q : k ≡ m = grind (arith, nat_tests) in inl q) (λ (i : rest ≡ true). inr i) (either (eqb m k) rest h)

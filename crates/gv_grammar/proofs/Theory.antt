@@ -1,17 +1,16 @@
 -- What a predictive table gives.
-use Rattle.std.proofs.Common.{◌≡◌, ℕ, suc, zero, ◌+◌, ◌-◌, ◌<◌, ◌≤◌, Bool, true, false, cond, ◌&&◌, ◌||◌, not, eqb, ltb, List, [], ◌∷◌, ◌++◌, length, Some, None, Option, ◌⊎◌, inl, inr, ⊎_elim, refl, sym, ap, subst, ◌∙◌, arith, append_assoc}
+use Rattle.std.proofs.Common.{◌≡◌, ℕ, ◌+◌, ◌<◌, Bool, true, false, cond, ◌&&◌, eqb, List, [], ◌∷◌, ◌++◌, length, Some, ◌⊎◌, inl, inr, ⊎_elim, refl, sym, subst, ◌∙◌, arith, append_assoc}
 use Rattle.std.specs.Prelude.{slice_get, slice_index, nat_lt, drop, ◌*◌}
 use Rattle.std.proofs.lemmas.List.{get_or-drop}
-use Rattle.std.specs.List.{enumerate_from, list_any, list_all}
-use Rattle.std.proofs.lemmas.Bool.{false≢true}
+use Rattle.std.specs.List.{enumerate_from, list_all}
 use Rattle.std.proofs.lemmas.Bool.Decides.{nat_tests}
-use Rattle.gv_grammar.specs.declared.Symbol.{Symbol}
-use Rattle.gv_grammar.specs.declared.Symbol.TheVariants.{Token, Name, Act}
-use Rattle.gv_grammar.specs.declared.Step.{Step}
-use Rattle.gv_grammar.specs.Derivation.{Tables, Derives, done, token, act, named, is_among, members, symbols_of, takes}
-use Rattle.gv_grammar.specs.Predictive.{Certificate, row, is_empty, empties, beginnings, reach, follows_hold, is_known, predicts, entry, rule_holds, is_shown_by, is_within, is_below, closes, is_rule_of}
-use Rattle.gv_grammar.specs.Engine.{look, Begins, Fits, IsSound, Narrows, Takes, Refuses}
-use Rattle.gv_grammar.proofs.Tests.{both, either, either_left, either_right, then_so, among_append, within_among, all_among, all_append, all_at}
+use Rattle.gv_grammar.specs.declared.symbols.Symbol.{Symbol}
+use Rattle.gv_grammar.specs.declared.symbols.Symbol.TheVariants.{Token, Name, Act}
+use Rattle.gv_grammar.specs.declared.steps.Step.{Step}
+use Rattle.gv_grammar.specs.Derivation.{Tables, Derives, done, token, act, named, is_among, members, symbols_of}
+use Rattle.gv_grammar.specs.Predictive.{Certificate, row, is_empty, empties, beginnings, reach, follows_hold, is_known, predicts, entry, rule_holds, is_shown_by, is_within, closes, shows_late}
+use Rattle.gv_grammar.specs.Engine.{look, Begins, Fits, IsSound}
+use Rattle.gv_grammar.proofs.Tests.{both, either_left, either_right, then_so, among_append, within_among, all_among, all_append, all_at}
 
 -- derivations side by side
 pub derives_append : (g : Tables) {xs ys : List Symbol} {ps : List Step} {us : List ℕ} {qs : List Step} {vs : List ℕ} → Derives g xs ps us → Derives g ys qs vs → Derives g (xs ++ ys) (ps ++ qs) (us ++ vs)
@@ -63,6 +62,7 @@ module _ (g : Tables) (c : Certificate) where
     pub predicted : predicts g c name rule (beginnings g c (symbols_of g rule)) ≡ true
     pub predicted_empty : empties g c (symbols_of g rule) ≡ true → predicts g c name rule (row c.follow name) ≡ true
     pub falls : nat_lt (reach g c (symbols_of g rule)) (slice_index c.weight name) ≡ true
+    pub late : shows_late (symbols_of g rule) ≡ true
 
   -- what the whole test says
   pub record ShownFacts : Type 0 where
@@ -91,6 +91,7 @@ module _ (g : Tables) (c : Certificate) where
         let h4 = both _ _ h3.1 in
         let h5 = both _ _ h4.1 in
         let h6 = both _ _ h5.1 in
+        let h7 = both _ _ h6.1 in
         record {
           known = h1.0;
           first = h2.0;
@@ -98,7 +99,8 @@ module _ (g : Tables) (c : Certificate) where
           follow = h4.0;
           predicted = h5.0;
           predicted_empty = then_so _ _ h6.0;
-          falls = h6.1;
+          falls = h7.0;
+          late = h7.1;
         }
 
     -- what is derived begins as foreseen

@@ -1,10 +1,10 @@
-use Rattle.std.specs.Prelude.{◌≡◌, ℕ, ◌+◌, Bool, true, ◌==◌, List, [], ◌∷◌, ◌++◌, Option, Some, slice_get, slice_index, slice_range}
+use Rattle.std.specs.Prelude.{◌≡◌, ℕ, ◌+◌, Bool, true, ◌==◌, List, [], ◌∷◌, ◌++◌, Some, slice_get, slice_index, slice_range}
 use Rattle.std.specs.List.{list_any}
-use Rattle.gv_grammar.specs.declared.Symbol.{Symbol}
-use Rattle.gv_grammar.specs.declared.Symbol.TheVariants.{Token, Name, Act}
-use Rattle.gv_grammar.specs.declared.Step.{Step}
-use Rattle.gv_grammar.specs.declared.Step.TheVariants.{Take, Do}
-use Rattle.gv_grammar.specs.declared.Grammar.{Grammar}
+use Rattle.gv_grammar.specs.declared.symbols.Symbol.{Symbol}
+use Rattle.gv_grammar.specs.declared.symbols.Symbol.TheVariants.{Token, Name, Act}
+use Rattle.gv_grammar.specs.declared.steps.Step.{Step}
+use Rattle.gv_grammar.specs.declared.steps.Step.TheVariants.{Take, Do}
+use Rattle.gv_grammar.specs.declared.grammars.Grammar.{Grammar}
 
 -- a grammar as lists
 pub record Tables : Type 0 where

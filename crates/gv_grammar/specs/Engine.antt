@@ -1,13 +1,12 @@
--- What the engine keeps of its stack.
-use Rattle.std.specs.Prelude.{◌≡◌, ℕ, ◌+◌, ◌<◌, ◌≤◌, length, take, map, Bool, true, List, [], ◌∷◌, ◌++◌, ◌⊎◌}
+-- What the engine keeps of its stack of symbols.
+use Rattle.std.specs.Prelude.{◌≡◌, ℕ, true, List, [], ◌∷◌, ◌++◌, ◌⊎◌}
 use Rattle.std.specs.List.{list_all}
-use Rattle.gv_grammar.specs.declared.Symbol.{Symbol}
-use Rattle.gv_grammar.specs.declared.Symbol.TheVariants.{Token, Name, Act}
-use Rattle.gv_grammar.specs.declared.Step.{Step}
-use Rattle.gv_grammar.specs.declared.Step.TheVariants.{Take, Do}
-use Rattle.gv_grammar.specs.declared.Advance.{Advance}
-use Rattle.gv_grammar.specs.declared.Advance.TheVariants.{Taken, Refused, Finished}
-use Rattle.gv_grammar.specs.Derivation.{Tables, Derives, Spells, IsViable, IsStuck, is_among, members}
+use Rattle.gv_grammar.specs.declared.symbols.Symbol.{Symbol}
+use Rattle.gv_grammar.specs.declared.symbols.Symbol.TheVariants.{Token, Name, Act}
+use Rattle.gv_grammar.specs.declared.steps.Step.{Step}
+use Rattle.gv_grammar.specs.declared.derivation.Advance.{Advance}
+use Rattle.gv_grammar.specs.declared.derivation.Advance.TheVariants.{Taken, Refused, Finished}
+use Rattle.gv_grammar.specs.Derivation.{Tables, Derives, Spells, is_among, members}
 use Rattle.gv_grammar.specs.Predictive.{Certificate, row, is_empty, is_known, certificate_of}
 
 -- the class at the front, or 0 at the end
@@ -61,25 +60,3 @@ pub record IsReading (g : Tables) (seen : List ℕ) (stack : List Symbol) (steps
   pub up : (ps : List Step) (us : List ℕ) → Derives g stack ps us → Spells g (steps ++ ps) (seen ++ us)
   pub down : (ps : List Step) (us : List ℕ) → Spells g ps (seen ++ us) → (rest : List Step) × (ps ≡ steps ++ rest) × Derives g stack rest us
   pub sound : IsSound g (certificate_of g) stack
-
--- the one derivation of the classes
-pub record IsDerivation (g : Tables) (steps : List Step) (classes : List ℕ) : Type 0 where
-  pub derives : Spells g steps classes
-  pub only : (others : List Step) → Spells g others classes → others ≡ steps
-
--- the first class that no derived list has there
-pub record IsRefusedAt (g : Tables) (classes : List ℕ) (at : ℕ) : Type 0 where
-  pub within : at < length classes
-  pub viable : IsViable g (take at classes)
-  pub stuck : IsStuck g (take (at + 1) classes)
-
--- the classes begin a derived list, and are none
-pub record EndsEarly (g : Tables) (classes : List ℕ) : Type 0 where
-  pub viable : IsViable g classes
-  pub not_whole : (steps : List Step) → Spells g steps classes → ⊥
-
--- the front of this length is the longest that a derived list begins with
-pub record IsLongest (g : Tables) (classes : List ℕ) (len : ℕ) : Type 0 where
-  pub within : len ≤ length classes
-  pub viable : IsViable g (take len classes)
-  pub stuck : len < length classes → IsStuck g (take (len + 1) classes)

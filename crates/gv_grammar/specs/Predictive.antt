@@ -1,8 +1,10 @@
-use Rattle.std.specs.Prelude.{◌≡◌, ℕ, suc, zero, ◌+◌, ◌-◌, ◌*◌, Bool, true, false, not, ◌&&◌, ◌||◌, ◌==◌, nat_lt, List, [], ◌∷◌, ◌++◌, length, Option, Some, None, slice_get, slice_index, slice_set, drop, max, fold, reverse, replicate, if◌then◌else◌}
-use Rattle.std.specs.List.{list_any, list_all, enumerate_from}
-use Rattle.gv_grammar.specs.declared.Symbol.{Symbol}
-use Rattle.gv_grammar.specs.declared.Symbol.TheVariants.{Token, Name, Act}
-use Rattle.gv_grammar.specs.Derivation.{Tables, is_among, members, takes, symbols_of}
+-- The test of a table, and what it rests on.
+use Rattle.std.specs.Prelude.{ℕ, suc, zero, ◌+◌, ◌-◌, ◌*◌, Bool, true, false, not, ◌&&◌, ◌||◌, ◌==◌, nat_lt, List, [], ◌∷◌, ◌++◌, length, Some, None, slice_get, slice_index, slice_set, drop, max, fold, reverse, replicate, if◌then◌else◌}
+use Rattle.std.specs.List.{list_all, enumerate_from}
+use Rattle.gv_grammar.specs.declared.symbols.Symbol.{Symbol}
+use Rattle.gv_grammar.specs.declared.symbols.Symbol.TheVariants.{Token, Name, Act}
+use Rattle.gv_grammar.specs.declared.levels.TheConstants.{OPEN_BEFORE}
+use Rattle.gv_grammar.specs.Derivation.{Tables, is_among, members, symbols_of}
 
 -- what shows that a table is predictive, by name: whether it derives the empty list, which classes begin what it derives,
 -- which may stand behind it (0 for the end), two numbers that fall, and a rule that ends
@@ -34,6 +36,28 @@ predicts_in line rule classes = list_all (λ class. slice_index line class == ru
 
 abbrev pub is_within : List ℕ → List ℕ → Bool
 is_within ms ns = list_all (λ m. is_among m ns) ms
+
+-- whether this is no mark for the token taken last
+abbrev pub is_prompt : Symbol → Bool
+is_prompt (Token set) = true
+is_prompt (Name name) = true
+is_prompt (Act number) = not (number == OPEN_BEFORE)
+
+abbrev pub are_prompt : List Symbol → Bool
+are_prompt symbols = list_all is_prompt symbols
+
+abbrev pub has_token_first : List Symbol → Bool
+has_token_first [] = false
+has_token_first (Token set ∷ more) = true
+has_token_first (Name name ∷ more) = false
+has_token_first (Act number ∷ more) = false
+
+-- a mark for the token taken last stands at the front, before a token that shows it
+abbrev pub shows_late : List Symbol → Bool
+shows_late [] = true
+shows_late (Token set ∷ more) = are_prompt more
+shows_late (Name name ∷ more) = are_prompt more
+shows_late (Act number ∷ more) = (not (number == OPEN_BEFORE) || has_token_first more) && are_prompt more
 
 module _ (g : Tables) (c : Certificate) where
   -- whether these symbols may derive the empty list
@@ -72,7 +96,7 @@ module _ (g : Tables) (c : Certificate) where
 
   abbrev pub is_below : ℕ → Symbol → Bool
   is_below depth (Token set) = not (length (members g set) == 0)
-  is_below depth (Act number) = true
+  is_below depth (Act number) = not (number == OPEN_BEFORE)
   is_below depth (Name name) = nat_lt name (length c.closing) && nat_lt (slice_index c.depth name) depth
 
   abbrev pub predicts : ℕ → ℕ → List ℕ → Bool
@@ -87,7 +111,8 @@ module _ (g : Tables) (c : Certificate) where
       && (follows_hold name symbols
       && (predicts name rule (beginnings symbols)
       && ((not (empties symbols) || predicts name rule (row c.follow name))
-      && nat_lt (reach symbols) (slice_index c.weight name))))))
+      && (nat_lt (reach symbols) (slice_index c.weight name)
+      && shows_late symbols))))))
 
   abbrev pub closes : ℕ × ℕ → Bool
   closes (name, rule) = is_rule_of g name rule && list_all (is_below (slice_index c.depth name)) (symbols_of g rule)
@@ -115,7 +140,7 @@ spread g c name (Name inner ∷ more) follow =
 abbrev pub depth_of : Certificate → List Symbol → ℕ
 depth_of c [] = 1
 depth_of c (Token set ∷ more) = depth_of c more
-depth_of c (Act number ∷ more) = depth_of c more
+depth_of c (Act number ∷ more) = elim (number == OPEN_BEFORE) [ true ↦ 0 | false ↦ depth_of c more ]
 depth_of c (Name name ∷ more) =
     elim (slice_index c.depth name == 0) [ true ↦ 0 | false ↦ elim (depth_of c more == 0) [ true ↦ 0 | false ↦ max (slice_index c.depth name + 1) (depth_of c more) ] ]
 
@@ -154,6 +179,6 @@ certificate_of g =
       closing = replicate count 0;
     })
 
--- the table has the one rule that may go on, and each name derives something
+-- the table has the one rule that may go on, each name derives something, and marks for the token taken last are shown
 unfoldable pub is_predictive : Tables → Bool
 is_predictive g = is_shown_by g (certificate_of g)
