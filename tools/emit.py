@@ -15,6 +15,8 @@ def files(grammar, solved):
         f"specs/{title}Table.antt": table_spec(grammar),
         f"src/{stem}_acts.rt": acts_source(grammar),
         f"specs/{title}Acts.antt": acts_spec(grammar),
+        f"proofs/{title}Predictive.antt": predictive_proof(grammar),
+        f"proofs/{stem}_table/{stem}_grammar/Answers.antt": grammar_answers(grammar),
         f"{folder}/build_parts/Invariants.antt": build_invariants(grammar),
         f"{folder}/make/Answers.antt": make_answers(grammar),
     }
@@ -94,8 +96,9 @@ def table_source(grammar, solved):
     rows = [rule.words for rule in grammar.rules]
     sets = [[grammar.classes.index(c) + 1 for c in members] for members in grammar.sets.values()]
     out = f"//! The {stem} grammar as tables. {made_from(grammar)}\n"
-    out += "ghost use Rattle.std.specs.Prelude.{◌≡◌};\n"
+    out += "ghost use Rattle.std.specs.Prelude.{◌≡◌, true};\n"
     out += "ghost use Rattle.gv_grammar.specs.Derivation.{tables_of};\n"
+    out += "ghost use Rattle.gv_grammar.specs.Predictive.{is_predictive};\n"
     out += f"ghost use Rattle.{grammar.crate}.specs.{title}Table.{{{stem}_tables}};\n\n"
     out += f"use gv_grammar::{import_list(['Grammar', 'Symbol'] + marks)};\n\n"
     out += constants([(class_constant(c), at + 1) for at, c in enumerate(grammar.classes)], "u8")
@@ -115,10 +118,35 @@ def table_source(grammar, solved):
     out += number_array("TABLE", "u16", [0 if rule is None else rule + 1 for row in solved.table for rule in row])
     out += f"pub const WIDTH: u8 = {len(grammar.classes) + 1};\n\n"
     out += f"/// The {stem} grammar.\npub fn {stem}_grammar() -> Grammar\n"
-    out += f"    ensures {{ tables_of result ≡ {stem}_tables }}\n{{\n    Grammar {{\n"
+    out += f"    ensures tables {{ tables_of result ≡ {stem}_tables }}\n"
+    out += "    ensures predictive { is_predictive (tables_of result) ≡ true }\n{\n    Grammar {\n"
     for name in ("names", "symbols", "starts", "classes", "set_starts", "table"):
         out += f"        {name}: &{name.upper()},\n"
     return out + "        width: WIDTH,\n    }\n}\n"
+
+
+def predictive_proof(grammar):
+    stem, title = grammar.language, grammar.language.title()
+    return f"""-- The {stem} grammar's table is predictive: computed here, from the tables alone. {made_from(grammar)}
+use Rattle.std.proofs.Common.{{◌≡◌, true, refl}}
+use Rattle.gv_grammar.specs.Predictive.{{is_predictive, certificate_of}}
+use Rattle.{grammar.crate}.specs.{title}Table.{{{stem}_tables}}
+
+pub {stem}_predictive : is_predictive {stem}_tables ≡ true
+unfolding is_predictive certificate_of
+{stem}_predictive = refl
+"""
+
+
+def grammar_answers(grammar):
+    stem, title = grammar.language, grammar.language.title()
+    return f"""-- {made_from(grammar)}
+use Rattle.{grammar.crate}.proofs.{title}Predictive.{{{stem}_predictive}}
+use Rattle.{grammar.crate}.proofs.{stem}_table.{stem}_grammar.Goals as goal
+
+pub returns-clause-predictive : goal.returns-clause-predictive
+returns-clause-predictive c = {stem}_predictive
+"""
 
 
 def import_list(names):

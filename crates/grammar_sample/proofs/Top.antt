@@ -1,29 +1,23 @@
 -- What the sample language owes to have its reader.
-use Rattle.std.proofs.Common.{◌≡◌, ℕ, true, List, [], ◌∷◌, Some, refl, subst, sym}
-use Rattle.gv_grammar.specs.Derivation.{Tables}
-use Rattle.gv_grammar.specs.Predictive.{is_predictive, certificate_of}
+use Rattle.std.proofs.Common.{◌≡◌, List, refl}
 use Rattle.gv_grammar.specs.Building.{act_of}
 use Rattle.gv_grammar.proofs.Whole.{Laws}
-use Rattle.grammar_sample.specs.declared.sample_acts.Part.{Part}
 use Rattle.grammar_sample.specs.declared.sample_acts.Part.TheVariants.{Token as PToken, Stmts as PStmts}
 use Rattle.grammar_sample.specs.declared.tree.Token.{Token}
 use Rattle.grammar_sample.specs.declared.tree.Stmt.{Stmt}
 use Rattle.grammar_sample.specs.SampleTable.{sample_tables}
 use Rattle.grammar_sample.specs.SampleActs.{kind_of, acts}
 use Rattle.grammar_sample.specs.Language.{IsBlock}
+use Rattle.grammar_sample.proofs.SamplePredictive.{sample_predictive}
 use Rattle.grammar_sample.proofs.Forward.{whole_reads}
 use Rattle.grammar_sample.proofs.Backward.{whole_means}
-
-pub predictive : is_predictive sample_tables ≡ true
-unfolding is_predictive certificate_of
-predictive = refl
 
 one_block : (a b : List Stmt) → PStmts a ≡ PStmts b → a ≡ b
 one_block a b e = cc
 
 pub laws : Laws sample_tables (λ (token : Token). token.class) PToken (act_of kind_of acts) IsBlock PStmts
 laws = record {
-  predictive = predictive;
+  predictive = sample_predictive;
   token_for = λ class _. (record { class = class; value = 0 }, refl);
   one_tree = one_block;
   reads = whole_reads;

@@ -1,5 +1,5 @@
 -- What each act makes of the parts, the top one first. Made by tools/grammar.py from sample.grammar: edit that.
-use Rattle.std.specs.Prelude.{ℕ, List, [], ◌∷◌, ◌++◌, Option, Some, None}
+use Rattle.std.specs.Prelude.{ℕ, List, [], ◌∷◌, ◌++◌, Some, None}
 use Rattle.gv_grammar.specs.Building.{Reduction}
 use Rattle.grammar_sample.specs.declared.sample_acts.Part.{Part}
 use Rattle.grammar_sample.specs.declared.sample_acts.Part.TheVariants.{Token as PToken, Expr as PExpr, Args as PArgs, Head as PHead, Call as PCall, Right as PRight, Stmt as PStmt, Stmts as PStmts}

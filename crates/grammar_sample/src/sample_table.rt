@@ -1,6 +1,7 @@
 //! The sample grammar as tables. Made by tools/grammar.py from sample.grammar: edit that.
-ghost use Rattle.std.specs.Prelude.{◌≡◌};
+ghost use Rattle.std.specs.Prelude.{◌≡◌, true};
 ghost use Rattle.gv_grammar.specs.Derivation.{tables_of};
+ghost use Rattle.gv_grammar.specs.Predictive.{is_predictive};
 ghost use Rattle.grammar_sample.specs.SampleTable.{sample_tables};
 
 use gv_grammar::{Grammar, OPEN, OPEN_BEFORE, RESTORE, SAVE, Symbol};
@@ -521,7 +522,8 @@ pub const WIDTH: u8 = 19;
 
 /// The sample grammar.
 pub fn sample_grammar() -> Grammar
-    ensures { tables_of result ≡ sample_tables }
+    ensures tables { tables_of result ≡ sample_tables }
+    ensures predictive { is_predictive (tables_of result) ≡ true }
 {
     Grammar {
         names: &NAMES,

@@ -15,6 +15,7 @@ use Rattle.gv_grammar.specs.Faults.{ReadExplains, RunExplains}
 use Rattle.gv_grammar.specs.Text.{Placed, plain, opens, token_of, first_above, Spells, Begins, BeginsNone, IsRefused, IsUnfinished, IsLongestFront, IsWithin, IsTooDeep, IsShallow, Says, SaysOfFront}
 use Rattle.gv_grammar.specs.Building.{run}
 use Rattle.gv_grammar.proofs.Tests.{both}
+use Rattle.gv_grammar.proofs.Outcome.{take_within}
 use Rattle.gv_grammar.proofs.Unique.{one_derivation, classes_known}
 use Rattle.gv_grammar.proofs.Spelling.{Reading}
 
@@ -188,6 +189,12 @@ module _ {X T P : Type 0} (g : Tables) (class_of : X → ℕ) (part_of : X → P
               let m = above_within limit 0 o.placed i e in
               let k : length o.placed ≡ length tokens = sym (length-map o.placed token_of) ∙ ap length o.same in
               absurd (omega (arith, l, m, k))
+
+pub classes_of_front : {X : Type 0} (class_of : X → ℕ) (len : ℕ) (tokens : List X) {ks : List ℕ} → ks ≡ map class_of tokens → take len ks ≡ map class_of (take len tokens)
+classes_of_front class_of len tokens e = ap (take len) e ∙ take-map class_of len tokens
+
+pub before_front : {h : Tables} {ks : List ℕ} {len : ℕ} {deep : Option ℕ} → IsLongest h ks len → NotBefore len deep → NotBefore (length (take len ks)) deep
+before_front {ks = ks} {len = len} {deep = deep} l n = subst (λ (k : ℕ). NotBefore k deep) (sym (take_within len ks l.within)) n
 
 -- A reader's clauses, where it derives by the language's tables and builds what the steps say.
 module _ {X T P : Type 0} {g : Tables} {class_of : X → ℕ} {part_of : X → P} {make : ℕ → List P → Option (List P)} {IsText : ℕ → T → List (Placed X) → Type 0} {whole : T → P}
