@@ -166,6 +166,12 @@ def table_spec(grammar):
     )
 
 
+def mentions(grammar, word):
+    """Whether some act's term has a word or an operator of the Prelude."""
+    plain = word.replace("◌", "")
+    return any(plain in act.antt.replace("(", " ").replace(")", " ").split() for act in grammar.acts)
+
+
 def part(kind):
     return "P" + kind
 
@@ -185,8 +191,9 @@ def made(act):
 def acts_spec(grammar):
     stem, title = grammar.language, grammar.language.title()
     declared = f"Rattle.{grammar.crate}.specs.declared.{stem}_acts"
+    words = ["ℕ", "List", "[]", "◌∷◌"] + [word for word in ("◌++◌", "Some", "None") if mentions(grammar, word)]
     out = f"-- What each act makes of the parts, the top one first. {made_from(grammar)}\n"
-    out += "use Rattle.std.specs.Prelude.{ℕ, List, [], ◌∷◌, ◌++◌, Option, Some, None}\n"
+    out += f"use Rattle.std.specs.Prelude.{{{', '.join(words)}}}\n"
     out += "use Rattle.gv_grammar.specs.Building.{Reduction}\n"
     out += f"use {declared}.Part.{{Part}}\nuse {declared}.Part.TheVariants.{{{variants(grammar)}}}\n"
     out += f"use {declared}.TheConstants.{{{', '.join(kind_constant(kind) for kind in grammar.kinds)}}}\n"
