@@ -1,13 +1,15 @@
 -- What a derivation keeps of the classes seen.
-use Rattle.std.proofs.Common.{◌≡◌, ℕ, suc, zero, ◌+◌, ◌≤◌, true, List, [], ◌∷◌, ◌++◌, length, take, refl, sym, ap, subst, ◌∙◌, arith, append_assoc}
+use Rattle.std.proofs.Common.{◌≡◌, ◌⊎◌, ⊎_elim, ℕ, suc, zero, ◌+◌, ◌≤◌, true, List, [], ◌∷◌, ◌++◌, length, take, refl, sym, ap, subst, ◌∙◌, arith, append_assoc}
 use Rattle.std.proofs.lemmas.List.{append-nil, length-append}
+use Rattle.gv_grammar.specs.declared.derivation.Advance.{Advance}
+use Rattle.gv_grammar.specs.declared.derivation.Advance.TheVariants.{Taken, Refused, Finished}
 use Rattle.gv_grammar.specs.declared.symbols.Symbol.{Symbol}
 use Rattle.gv_grammar.specs.declared.symbols.Symbol.TheVariants.{Name}
 use Rattle.gv_grammar.specs.declared.steps.Step.{Step}
 use Rattle.gv_grammar.specs.Faults.{Begin}
 use Rattle.gv_grammar.specs.Derivation.{Tables, Derives, Spells, IsViable, IsStuck, done}
 use Rattle.gv_grammar.specs.Predictive.{is_predictive, certificate_of}
-use Rattle.gv_grammar.specs.Engine.{IsSound, Narrows, Takes, Refuses, IsReading}
+use Rattle.gv_grammar.specs.Engine.{IsSound, Narrows, Takes, Refuses, IsReading, Advances}
 use Rattle.gv_grammar.specs.Outcomes.{IsDerivation, EndsEarly}
 use Rattle.gv_grammar.proofs.Theory.{sound_start}
 use Rattle.gv_grammar.proofs.Narrowing.{derives_nothing, shown_of}
@@ -106,3 +108,17 @@ kept_front steps added steps' e = ap (take (length steps)) e ∙ take-append-len
 
 pub begin_kept : (g : Tables) (seen : List ℕ) (stack : List Symbol) (steps added steps' front : List Step) (kept : ℕ) → kept ≡ length steps → is_predictive g ≡ true → IsReading g seen stack steps → steps' ≡ steps ++ added → front ≡ take kept steps' → Begin g seen front
 begin_kept g seen stack steps added steps' front kept k p r e f = subst (λ (ps : List Step). Begin g seen ps) (sym (f ∙ ap (λ (n : ℕ). take n steps') k ∙ kept_front steps added steps' e)) (reading_begins g seen stack steps p r)
+
+-- a class that wasn't taken can't follow
+pub not_taken : (g : Tables) (seen : List ℕ) (class : ℕ) (old new : List Symbol) (steps steps' : List Step) (advance : Advance) → IsReading g seen old steps → Advances g class old new steps steps' advance
+    → (advance ≡ Refused) ⊎ (advance ≡ Finished) → (added : List Step) × (steps' ≡ steps ++ added) × IsStuck g (seen ++ class ∷ [])
+not_taken g seen class old new steps steps' advance r a h =
+    ⊎_elim (λ (e : advance ≡ Refused). let b : Advances g class old new steps steps' Refused = subst (Advances g class old new steps steps') e a in (b.0, b.1, reading_refused g seen class old steps r b.2))
+    (λ (e : advance ≡ Finished). let b : Advances g class old new steps steps' Finished = subst (Advances g class old new steps steps') e a in (b.0, b.1, reading_finished g seen class old steps b.0 r b.2)) h
+
+-- at the end, a stack that isn't finished lacks something
+pub not_finished : (g : Tables) (seen : List ℕ) (old new : List Symbol) (steps steps' : List Step) (advance : Advance) → is_predictive g ≡ true → IsReading g seen old steps → Advances g 0 old new steps steps' advance
+    → (advance ≡ Refused) ⊎ (advance ≡ Taken) → (added : List Step) × (steps' ≡ steps ++ added) × EndsEarly g seen
+not_finished g seen old new steps steps' advance p r a h =
+    ⊎_elim (λ (e : advance ≡ Refused). let b : Advances g 0 old new steps steps' Refused = subst (Advances g 0 old new steps steps') e a in (b.0, b.1, reading_ends g seen old steps p r b.2))
+    (λ (e : advance ≡ Taken). let b : Advances g 0 old new steps steps' Taken = subst (Advances g 0 old new steps steps') e a in (b.0, b.1, reading_taken g seen old steps p r new b.0 b.2)) h

@@ -83,11 +83,7 @@ pub(crate) fn derive_into(
         let kept = steps.len();
         match take_class(grammar, *class, &mut stack, steps)? {
             Advance::Taken => {}
-            Advance::Refused => {
-                steps.truncate(kept);
-                return Err(Fault::Refused { at });
-            }
-            Advance::Finished => {
+            Advance::Refused | Advance::Finished => {
                 steps.truncate(kept);
                 return Err(Fault::Refused { at });
             }
@@ -96,11 +92,7 @@ pub(crate) fn derive_into(
     let kept = steps.len();
     match take_class(grammar, 0, &mut stack, steps)? {
         Advance::Finished => Ok(()),
-        Advance::Refused => {
-            steps.truncate(kept);
-            Err(Fault::End)
-        }
-        Advance::Taken => {
+        Advance::Refused | Advance::Taken => {
             steps.truncate(kept);
             Err(Fault::End)
         }

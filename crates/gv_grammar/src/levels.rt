@@ -35,13 +35,8 @@ pub fn first_deep(
         match step {
             Step::Take => at += 1,
             Step::Do(act) => match *act {
-                OPEN | OPEN_BEFORE if level >= limit => {
-                    return Ok(Some(if *act == OPEN {
-                        at
-                    } else {
-                        at.saturating_sub(1)
-                    }));
-                }
+                OPEN if level >= limit => return Ok(Some(at)),
+                OPEN_BEFORE if level >= limit => return Ok(Some(at.saturating_sub(1))),
                 OPEN | OPEN_BEFORE => level += 1,
                 SAVE => saved.push(level)?,
                 RESTORE => level = saved.pop().unwrap_or(level),
