@@ -5,8 +5,8 @@ use Rattle.std.specs.List.{list_all}
 use Rattle.std.proofs.lemmas.List.{map-append, take-map, length-map}
 use Rattle.gv_grammar.specs.declared.symbols.Symbol.TheVariants.{Name}
 use Rattle.gv_grammar.specs.declared.steps.Step.{Step}
-use Rattle.gv_grammar.specs.declared.faults.ReadFault.{ReadFault}
-use Rattle.gv_grammar.specs.declared.faults.ReadFault.TheVariants.{NoMemory, Refused, TooDeep, End}
+use Rattle.gv_grammar.specs.declared.read_faults.ReadFault.{ReadFault}
+use Rattle.gv_grammar.specs.declared.read_faults.ReadFault.TheVariants.{NoMemory, Refused, TooDeep, End}
 use Rattle.gv_grammar.specs.Derivation.{Tables, Spells as Derived, IsViable, IsStuck, is_among}
 use Rattle.gv_grammar.specs.Predictive.{is_predictive}
 use Rattle.gv_grammar.specs.Outcomes.{IsDerivation, IsRefusedAt, EndsEarly, IsLongest}

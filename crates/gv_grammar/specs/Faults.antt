@@ -2,8 +2,8 @@
 use Rattle.std.specs.Prelude.{◌≡◌, ℕ, List, ◌++◌, take, length}
 use Rattle.gv_grammar.specs.declared.faults.Fault.{Fault}
 use Rattle.gv_grammar.specs.declared.faults.Fault.TheVariants.{NoMemory, Refused, End}
-use Rattle.gv_grammar.specs.declared.faults.ReadFault.{ReadFault}
-use Rattle.gv_grammar.specs.declared.faults.ReadFault.TheVariants.{NoMemory as ReadNoMemory, Refused as ReadRefused, TooDeep, End as ReadEnd}
+use Rattle.gv_grammar.specs.declared.read_faults.ReadFault.{ReadFault}
+use Rattle.gv_grammar.specs.declared.read_faults.ReadFault.TheVariants.{NoMemory as ReadNoMemory, Refused as ReadRefused, TooDeep, End as ReadEnd}
 use Rattle.gv_grammar.specs.declared.steps.Step.{Step}
 use Rattle.gv_grammar.specs.Derivation.{Tables, Spells}
 use Rattle.gv_grammar.specs.Levels.{takes_in, IsTooDeep, IsShallow}

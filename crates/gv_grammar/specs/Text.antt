@@ -1,7 +1,7 @@
 -- Texts: lists of tokens that spell trees by a published grammar, with levels of nesting.
 use Rattle.std.specs.Prelude.{◌≡◌, ℕ, ◌+◌, ◌<◌, ◌≤◌, nat_lt, length, take, map, List, [], ◌∷◌, ◌++◌, Option, Some, None, if◌then◌else◌}
-use Rattle.gv_grammar.specs.declared.faults.ReadFault.{ReadFault}
-use Rattle.gv_grammar.specs.declared.faults.ReadFault.TheVariants.{NoMemory, Refused, TooDeep, End}
+use Rattle.gv_grammar.specs.declared.read_faults.ReadFault.{ReadFault}
+use Rattle.gv_grammar.specs.declared.read_faults.ReadFault.TheVariants.{NoMemory, Refused, TooDeep, End}
 
 -- A token that opens no level, or one that opens a level above this one.
 pub data Placed (X : Type 0) : Type 0 where

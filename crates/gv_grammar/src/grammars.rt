@@ -5,19 +5,24 @@ ghost use Rattle.gv_grammar.specs.Predictive.{entry};
 
 use crate::symbols::Symbol;
 
-/// A grammar. Rows lie one after another, and an array of starts has where each begins, and the end.
+/// A grammar as tables. Rows lie one after another, and an array of starts has where each begins, and at last the end.
+///
+/// Its readers ask for `is_predictive` of the tables, which a caller has by computation. Source: this project's own.
 #[derive(Clone, Copy, Debug)]
 pub struct Grammar {
-    /// The name that each rule is of. Name 0 is what a whole list is derived from.
+    /// By rule, the name that it is of. Name 0 is what a whole list is derived from.
     pub names: &'static [u8],
     /// The rules' rows.
     pub symbols: &'static [Symbol],
+    /// By rule, where its row begins in `symbols`; one more than there are rules.
     pub starts: &'static [u16],
-    /// The sets' rows. Class 0 is of no token: it stands for the end.
+    /// The sets' rows of classes. Class 0 is of no token: it stands for the end.
     pub classes: &'static [u8],
+    /// By set, where its row begins in `classes`; one more than there are sets.
     pub set_starts: &'static [u16],
     /// One more than the rule for a name before a class, by rows of `width`; 0 where there is none.
     pub table: &'static [u16],
+    /// One more than the greatest class.
     pub width: u8,
 }
 

@@ -7,9 +7,10 @@ ghost use Rattle.gv_grammar.specs.Levels.{deep_from, NotBefore};
 ghost use Rattle.gv_grammar.specs.Faults.{ReadExplains, RunExplains};
 
 use crate::derivation::derive_into;
-use crate::faults::{Fault, ReadFault};
+use crate::faults::Fault;
 use crate::grammars::Grammar;
 use crate::levels::deep_before;
+use crate::read_faults::ReadFault;
 use crate::steps::Step;
 use std::alloc::Global;
 
