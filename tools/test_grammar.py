@@ -1,0 +1,79 @@
+#!/usr/bin/env python3
+"""Tests of the reports on grammars: each bad one is refused in words that name its rule."""
+
+import os
+import sys
+import tempfile
+import unittest
+
+sys.path.insert(0, os.path.dirname(os.path.abspath(__file__)))
+
+import predict
+from grammar_file import GrammarError, read_grammar
+
+HEAD = """language tiny
+crate tiny
+token Token
+start Top
+whole Tree
+
+classes
+    Id Plus Open Close
+
+kinds
+    Tree = Tree
+
+acts
+    LEAF _:Token -> Tree
+        antt Leaf
+        rust Tree::Leaf
+
+rules
+"""
+
+
+def reports(rules):
+    """What is said of a grammar with these rules; nothing where it is predictive."""
+    with tempfile.NamedTemporaryFile("w", suffix=".grammar", delete=False) as file:
+        file.write(HEAD + rules)
+    try:
+        predict.solve(read_grammar(file.name))
+        return []
+    except GrammarError as error:
+        return error.lines
+    finally:
+        os.unlink(file.name)
+
+
+class Reports(unittest.TestCase):
+    CASES = [
+        ("    Top\n        leaf = Id {LEAF}\n", None),
+        ("    Top\n        one = Id {LEAF}\n        two = Id Plus\n", "conflict before Id: Top/one = Id {LEAF} | Top/two = Id Plus"),
+        ("    Top\n        leaf = Id {LEAF} Tail Id\n    Tail\n        more = Id Tail\n        end =\n", "conflict before Id: Tail/more = Id Tail | Tail/end ="),
+        ("    Top\n        more = Top Plus\n        leaf = Id {LEAF}\n", "left recursion: Top comes back to its own front by Top/more = Top Plus"),
+        (
+            "    Top\n        leaf = Empty Side\n    Empty\n        none =\n    Side\n        back = Empty Top\n        leaf = Id {LEAF}\n",
+            "left recursion: Top comes back to its own front by Top/leaf = Empty Side, Side/back = Empty Top",
+        ),
+        (
+            "    Top\n        leaf = Id {LEAF}\n        loop = Open Loop\n    Loop\n        again = Plus Loop\n",
+            "Loop derives nothing: each of its rules comes back to a name that never ends",
+        ),
+        ("    Top\n        leaf = Id {LEAF} Word\n", "Top/leaf: Word is no name, set or class"),
+        ("    Top\n        leaf = Id {TREE}\n", "Top/leaf: {TREE} is no act"),
+        ("    Top\n        leaf = Id {OPEN_BEFORE} {LEAF}\n", "Top/leaf: {OPEN_BEFORE} stands only at the front of a row, before a token"),
+        ("    Top\n        leaf = Id {LEAF}\n    Lost\n        one = Plus\n", "the name Lost stands in no rule"),
+    ]
+
+    def test_reports(self):
+        for rules, wanted in self.CASES:
+            with self.subTest(rules=rules):
+                said = reports(rules)
+                if wanted is None:
+                    self.assertEqual(said, [])
+                else:
+                    self.assertIn(wanted, said)
+
+
+if __name__ == "__main__":
+    unittest.main()
