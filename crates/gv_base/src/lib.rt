@@ -8,7 +8,9 @@ mod name;
 mod outside;
 mod real;
 mod reason;
+mod slice_val;
 mod small;
+mod steps;
 mod sure;
 
 pub use answers::{Code, NoMemory, Place, Refusal};
@@ -18,5 +20,7 @@ pub use name::Name;
 pub use outside::{FetchFail, Files, PutFail, Sink};
 pub use real::{DiskFiles, StdSink};
 pub use reason::Reason;
+pub use slice_val::SliceVal;
 pub use small::{Part, Small, SmallOp, Turn};
+pub use steps::Steps;
 pub use sure::{SureFiles, SureSink};
