@@ -1,0 +1,6 @@
+pub mod Sorts
+pub mod Words
+pub mod Maps
+pub mod Values
+pub mod Meaning
+pub mod Trees

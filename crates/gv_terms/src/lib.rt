@@ -1,0 +1,14 @@
+//! Sorts, terms, values, and specifications as definitions.
+#![tactic(auto)]
+
+mod map;
+mod operator;
+mod sort;
+mod tree;
+mod value;
+
+pub use map::FiniteMap;
+pub use operator::Operator;
+pub use sort::Sort;
+pub use tree::{Head, RawTerm, TermTree};
+pub use value::{Binding, Env, Value};
