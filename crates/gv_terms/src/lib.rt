@@ -1,12 +1,15 @@
 //! Sorts, terms, values, and specifications as definitions.
 #![tactic(auto)]
 
+mod item;
+mod items;
 mod map;
 mod operator;
 mod sort;
 mod tree;
 mod value;
 
+pub use item::Item;
 pub use map::FiniteMap;
 pub use operator::Operator;
 pub use sort::Sort;
