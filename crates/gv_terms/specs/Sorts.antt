@@ -113,3 +113,20 @@ sort_given op.Has ss = with_map ss (λ s entry. takes (s ∷ Word ∷ []) Truth 
 sort_given op.Put ss = with_map ss (λ s entry. takes (s ∷ Word ∷ entry ∷ []) s ss)
 sort_given op.Del ss = with_map ss (λ s entry. takes (s ∷ Word ∷ []) s ss)
 sort_given op.SLen ss = takes (SliceS ∷ []) Word ss
+
+-- the operators whose first part is a list, and a map
+abbrev pub IsOnLists : Operator → Type 0
+IsOnLists op.Len = Unit {0}
+IsOnLists op.At = Unit {0}
+IsOnLists op.Upd = Unit {0}
+IsOnLists op.Sub = Unit {0}
+IsOnLists op.Cat = Unit {0}
+IsOnLists op.IsZero = Unit {0}
+IsOnLists _ = ⊥
+
+abbrev pub IsOnMaps : Operator → Type 0
+IsOnMaps op.Get = Unit {0}
+IsOnMaps op.Has = Unit {0}
+IsOnMaps op.Put = Unit {0}
+IsOnMaps op.Del = Unit {0}
+IsOnMaps _ = ⊥

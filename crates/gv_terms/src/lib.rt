@@ -6,6 +6,7 @@ mod items;
 mod map;
 mod operator;
 mod sort;
+mod sorting;
 mod tree;
 mod value;
 
