@@ -130,3 +130,45 @@ IsOnMaps op.Has = Unit {0}
 IsOnMaps op.Put = Unit {0}
 IsOnMaps op.Del = Unit {0}
 IsOnMaps _ = ⊥
+
+-- the operators on two words that give a word
+abbrev pub IsOnWords : Operator → Type 0
+IsOnWords op.Plus = Unit {0}
+IsOnWords op.Minus = Unit {0}
+IsOnWords op.BitOr = Unit {0}
+IsOnWords op.BitXor = Unit {0}
+IsOnWords op.Times = Unit {0}
+IsOnWords op.Divide = Unit {0}
+IsOnWords op.Remainder = Unit {0}
+IsOnWords op.ShiftLeft = Unit {0}
+IsOnWords op.ShiftRight = Unit {0}
+IsOnWords op.BitAnd = Unit {0}
+IsOnWords op.BitClear = Unit {0}
+IsOnWords _ = ⊥
+
+-- how many parts an operator has
+abbrev pub arity : Operator → ℕ
+arity (op.Number n) = 0
+arity op.True = 0
+arity op.False = 0
+arity op.Nil = 0
+arity op.NilSlice = 0
+arity op.NoCall = 0
+arity op.MapWW = 0
+arity op.MapWB = 0
+arity op.Not = 1
+arity op.Complement = 1
+arity (op.Bytes k) = 1
+arity (op.Words k) = 1
+arity (op.Refs k) = 1
+arity (op.Blocks k) = 1
+arity op.Len = 1
+arity op.IsZero = 1
+arity op.Le64 = 1
+arity op.Un64 = 1
+arity op.SLen = 1
+arity op.If = 3
+arity op.Upd = 3
+arity op.Sub = 3
+arity op.Put = 3
+arity _ = 2

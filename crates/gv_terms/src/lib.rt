@@ -3,12 +3,17 @@
 
 mod item;
 mod items;
+mod lists;
 mod map;
+mod maps;
+mod operate;
 mod operator;
+mod reading;
 mod sort;
 mod sorting;
 mod tree;
 mod value;
+mod words;
 
 pub use item::Item;
 pub use map::FiniteMap;
