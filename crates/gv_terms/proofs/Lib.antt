@@ -4,3 +4,7 @@ pub mod SortTests
 pub mod Equality
 pub mod WordBytes
 pub mod Blocks
+pub mod Grown
+pub mod NodeSorts
+pub mod Places
+pub mod Trees

@@ -4,3 +4,5 @@ pub mod Maps
 pub mod Values
 pub mod Meaning
 pub mod Trees
+pub mod Store
+pub mod Places

@@ -44,6 +44,12 @@ sort_of_node (head.Variable n s) [] = Some s
 sort_of_node (head.Variable n s) (t ∷ ts) = None
 sort_of_node (head.Apply o) ts = sort_of (tree.Apply o ts)
 
+-- the same from the sorts of the parts
+abbrev pub head_sort : Head → List Sort → Option Sort
+head_sort (head.Variable n s) [] = Some s
+head_sort (head.Variable n s) (r ∷ rs) = None
+head_sort (head.Apply o) rs = sort_given o rs
+
 -- what a valuation gives a variable: the first value that has its name and its sort, or the zero
 abbrev pub looked_up : Env → List ℕ → Sort → Value
 looked_up env n s = unwrap_or (option_map (λ b. b.value) (find (λ b. bytes_eq b.name n && has_sort b.value s) env.bindings)) (zero_of s)

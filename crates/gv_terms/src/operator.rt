@@ -1,7 +1,10 @@
 //! The operators of terms.
 
+ghost use Rattle.std.specs.Prelude.{◌≡◌, ◌↔◌, IsTrue};
+ghost use Rattle.gv_terms.specs.Places.{place_of, literal_of};
+
 /// An operator with its literal, where it has one. This project's own.
-#[derive(Clone, Copy, Debug, PartialEq, Eq)]
+#[derive(Clone, Copy, Debug)]
 pub enum Operator {
     /// A number.
     Number(u64),
@@ -95,4 +98,83 @@ pub enum Operator {
     Del,
     /// `slen(s)`
     SLen,
+}
+
+impl Operator {
+    /// Whether the two operators are equal, their literals included.
+    #[tactic(auto, using(crate::proofs::Places::same_operator))]
+    pub fn same(self, other: Operator) -> bool
+        ensures { IsTrue result ↔ (self ≡ other) }
+    {
+        self.place() == other.place() && self.literal() == other.literal()
+    }
+
+    // The literal, and 0 where there is none.
+    fn literal(self) -> u64
+        ensures { result ≡ literal_of self }
+    {
+        match self {
+            Operator::Number(k)
+            | Operator::Bytes(k)
+            | Operator::Words(k)
+            | Operator::Refs(k)
+            | Operator::Blocks(k) => k,
+            _ => 0,
+        }
+    }
+
+    // The place in the list of operators.
+    fn place(self) -> u64
+        ensures { result ≡ place_of self }
+    {
+        match self {
+            Operator::Number(_) => 0,
+            Operator::True => 1,
+            Operator::False => 2,
+            Operator::Nil => 3,
+            Operator::NilSlice => 4,
+            Operator::NoCall => 5,
+            Operator::MapWW => 6,
+            Operator::MapWB => 7,
+            Operator::Not => 8,
+            Operator::Complement => 9,
+            Operator::Or => 10,
+            Operator::And => 11,
+            Operator::Equal => 12,
+            Operator::Less => 13,
+            Operator::AtMost => 14,
+            Operator::Plus => 15,
+            Operator::Minus => 16,
+            Operator::BitOr => 17,
+            Operator::BitXor => 18,
+            Operator::Times => 19,
+            Operator::Divide => 20,
+            Operator::Remainder => 21,
+            Operator::ShiftLeft => 22,
+            Operator::ShiftRight => 23,
+            Operator::BitAnd => 24,
+            Operator::BitClear => 25,
+            Operator::If => 26,
+            Operator::Imp => 27,
+            Operator::Fits => 28,
+            Operator::Bytes(_) => 29,
+            Operator::Words(_) => 30,
+            Operator::Refs(_) => 31,
+            Operator::Blocks(_) => 32,
+            Operator::Len => 33,
+            Operator::At => 34,
+            Operator::Upd => 35,
+            Operator::Sub => 36,
+            Operator::Cat => 37,
+            Operator::IsZero => 38,
+            Operator::Le64 => 39,
+            Operator::Un64 => 40,
+            Operator::Put64 => 41,
+            Operator::Get => 42,
+            Operator::Has => 43,
+            Operator::Put => 44,
+            Operator::Del => 45,
+            Operator::SLen => 46,
+        }
+    }
 }

@@ -1,0 +1,121 @@
+//! The store that makes terms.
+
+ghost use Rattle.std.specs.Prelude.{◌≡◌, ◌↔◌, ◌<◌, [], length, Some, None, IsTrue, IsSome, IfOk, IfErr, map};
+ghost use Rattle.gv_terms.specs.Trees.{sort_of, sort_of_node};
+ghost use Rattle.gv_terms.specs.declared.term.MakeFault.TheVariants as fault;
+ghost use Rattle.gv_terms.specs.Store.{tree_at, trees_at, node_tree, AreIn, Grows, IsSoundAt};
+
+use crate::sort::Sort;
+use crate::stored::Stored;
+use crate::term::{MakeFault, Node, Term};
+use crate::tree::{Head, TermTree};
+use gv_base::{List, NoMemory};
+use std::alloc::Global;
+use std::marker::Model;
+
+/// Terms by number, which contracts see as the list of their trees. It only grows, and a term that
+/// was made keeps its tree. This project's own.
+#[derive(Debug, Drop)]
+pub struct TermStore {
+    nodes: Vec<Stored>,
+}
+
+impl Model for TermStore {
+    ghost use Rattle.std.specs.Prelude.{List as Seq};
+    ghost use Rattle.gv_terms.specs.declared.tree.TermTree.{TermTree as Tree};
+    ghost use Rattle.gv_terms.specs.Store.{trees_of, AreSound};
+    ghost use Rattle.gv_terms.specs.contracts.tree.TermTree as row;
+    ghost use Rattle.std.specs.Coded.{codes};
+
+    ghost Value = { Seq Tree };
+
+    ghost coded = { Prim.hlevel (codes, row.the_row.coded) };
+
+    ghost view = { λ s. trees_of s.nodes.items };
+
+    ghost invariant = { λ s. AreSound s.nodes.items };
+}
+
+impl TermStore {
+    /// The store without terms.
+    #[tactic(auto, unfolding(crate::specs::Store::trees_of))]
+    pub fn new(alloc: Global) -> Result<TermStore, NoMemory>
+        ensures { IfOk result (λ s. s ≡ []) }
+    {
+        Ok(TermStore {
+            nodes: Vec::new(alloc),
+        })
+    }
+
+    // What the store keeps of a term.
+    fn node(&self, t: Term) -> &Stored
+        requires { t.id < length self.now }
+        ensures { IsSoundAt self.now t.id result.now }
+    {
+        &self.nodes[t.id as usize]
+    }
+
+    /// The sort of a term.
+    pub fn sort_of(&self, t: Term) -> Sort
+        requires { t.id < length self.now }
+        ensures { sort_of (tree_at self.now t.id) ≡ Some result }
+    {
+        self.node(t).sort
+    }
+
+    // The sorts of several terms.
+    fn sorts_of(&self, alloc: Global, parts: &[Term]) -> Result<Vec<Sort>, NoMemory>
+        requires { AreIn self.now parts.now }
+        ensures { IfOk result (λ v. map sort_of (trees_at self.now parts.now) ≡ map (λ s. Some s) v.items) }
+    {
+        let mut sorts = Vec::new(alloc);
+        for part in parts {
+            sorts.push(self.sort_of(*part))?;
+        }
+        Ok(sorts)
+    }
+
+    /// The term of a node, where the node has a sort.
+    pub fn make(&mut self, alloc: Global, node: &Node) -> Result<Term, MakeFault>
+        requires { AreIn self.old node.now.parts }
+        ensures within { IfOk result (λ t. t.id < length self.new) }
+        ensures made { IfOk result (λ t. tree_at self.new t.id ≡ node_tree self.old node.now) }
+        ensures sorted { IfOk result (λ t. IsSome (sort_of_node node.now.head (trees_at self.old node.now.parts))) }
+        ensures cause { IfErr result (λ e. e ≡ fault.WrongSort → sort_of_node node.now.head (trees_at self.old node.now.parts) ≡ None) }
+        ensures grows { Grows self.old self.new }
+    {
+        let sorts = self.sorts_of(alloc, node.parts.as_slice())?;
+        let Some(sort) = node.head.sort_given(sorts.as_slice()) else {
+            return Err(MakeFault::WrongSort);
+        };
+        let stored = Stored {
+            head: node.head.copy(alloc)?,
+            parts: List::from_vec(Vec::from_slice(alloc, node.parts.as_slice())?),
+            sort,
+        };
+        let id = self.nodes.len() as u64;
+        self.nodes.push(stored)?;
+        Ok(Term { id })
+    }
+
+    /// The tree of a term.
+    pub fn tree_of(&self, alloc: Global, t: Term) -> Result<TermTree, NoMemory>
+        requires { t.id < length self.now }
+        ensures { IfOk result (λ tree. tree ≡ tree_at self.now t.id) }
+    {
+        let node = self.node(t);
+        match &node.head {
+            Head::Variable { name, sort } => Ok(TermTree::Variable {
+                name: name.copy(alloc)?,
+                sort: *sort,
+            }),
+            Head::Apply(operator) => {
+                let mut parts = Vec::new(alloc);
+                for part in node.parts.as_slice() {
+                    parts.push(self.tree_of(alloc, *part)?)?;
+                }
+                Ok(TermTree::Apply(*operator, List::from_vec(parts)))
+            }
+        }
+    }
+}
