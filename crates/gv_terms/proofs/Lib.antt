@@ -8,3 +8,4 @@ pub mod Grown
 pub mod NodeSorts
 pub mod Places
 pub mod Trees
+pub mod SameTerms

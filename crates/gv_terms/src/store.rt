@@ -9,9 +9,10 @@ use crate::sort::Sort;
 use crate::stored::Stored;
 use crate::term::{MakeFault, Node, Term};
 use crate::tree::{Head, TermTree};
-use gv_base::{List, NoMemory};
+use gv_base::{List, NoMemory, Steps};
 use std::alloc::Global;
 use std::marker::Model;
+use std::sync::ledger::Ledger;
 
 /// Terms by number, which contracts see as the list of their trees. It only grows, and a term that
 /// was made keeps its tree. This project's own.
@@ -115,6 +116,39 @@ impl TermStore {
                     parts.push(self.tree_of(alloc, *part)?)?;
                 }
                 Ok(TermTree::Apply(*operator, List::from_vec(parts)))
+            }
+        }
+    }
+
+    /// Whether the trees of the two terms are equal.
+    pub fn same<L: Ledger>(&self, a: Term, b: Term, steps: &mut Steps<L>) -> bool
+        requires first { a.id < length self.now }
+        requires second { b.id < length self.now }
+        ensures { IsTrue result ↔ (tree_at self.now a.id ≡ tree_at self.now b.id) }
+    {
+        steps.tick();
+        if a.id == b.id {
+            return true;
+        }
+        let first = self.node(a);
+        let second = self.node(b);
+        if !first.head.same(&second.head) {
+            return false;
+        }
+        match &first.head {
+            Head::Variable { .. } => true,
+            Head::Apply(_) => {
+                let these = first.parts.as_slice();
+                let those = second.parts.as_slice();
+                if these.len() != those.len() {
+                    return false;
+                }
+                for i in 0..these.len() {
+                    if !self.same(these[i], those[i], steps) {
+                        return false;
+                    }
+                }
+                true
             }
         }
     }
