@@ -9,3 +9,6 @@ pub mod NodeSorts
 pub mod Places
 pub mod Trees
 pub mod SameTerms
+pub mod Marked
+pub mod Arity
+pub mod Valued

@@ -1,5 +1,5 @@
 -- The sort of a node, from the sorts of its parts.
-use Rattle.std.proofs.Common.{option_map, ◌≡◌, ℕ, ◌+◌, ◌<◌, List, [], ◌∷◌, ◌++◌, length, get_or, take, map, refl, sym, ap, ◌∙◌, subst, arith, rules, Option, Some, None}
+use Rattle.std.proofs.Common.{option_map, ◌≡◌, ℕ, ◌+◌, ◌<◌, List, [], ◌∷◌, ◌++◌, length, get_or, take, map, refl, sym, ap, ◌∙◌, rules, Some}
 use Rattle.std.proofs.lemmas.List.{map-append, take_more}
 use Rattle.gv_terms.specs.declared.sort.Sort.{Sort}
 use Rattle.gv_terms.specs.declared.operator.Operator.{Operator}
@@ -8,7 +8,7 @@ use Rattle.gv_terms.specs.declared.tree.Head.TheVariants as head
 use Rattle.gv_terms.specs.declared.tree.TermTree.{TermTree, the_lemmas}
 use Rattle.gv_terms.specs.declared.tree.TermTree.TheVariants as tree
 use Rattle.gv_terms.specs.declared.term.Term.{Term}
-use Rattle.gv_terms.specs.Sorts.{sort_given, with_sort}
+use Rattle.gv_terms.specs.Sorts.{sort_given}
 use Rattle.gv_terms.specs.Trees.{rooted, sort_of, sort_of_node, all_sorts, with_sorts, head_sort}
 use Rattle.gv_terms.specs.Store.{tree_at, trees_at}
 

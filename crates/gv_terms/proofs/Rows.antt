@@ -1,5 +1,5 @@
 -- Worked rows of the definitions.
-use Rattle.std.proofs.Common.{◌≡◌, ℕ, ◌-◌, ◌^◌, List, [], ◌∷◌, Bool, true, false, Option, Some, None, refl}
+use Rattle.std.proofs.Common.{◌≡◌, ℕ, ◌-◌, ◌^◌, List, [], ◌∷◌, true, false, Some, None, refl}
 use Rattle.gv_terms.specs.declared.sort.Sort.TheVariants as sort
 use Rattle.gv_terms.specs.declared.operator.Operator.TheVariants as op
 use Rattle.gv_terms.specs.declared.value.Value.{Value}

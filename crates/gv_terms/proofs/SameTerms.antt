@@ -1,7 +1,6 @@
 -- Two terms with one tree have parts with one tree each.
-use Rattle.std.proofs.Common.{◌≡◌, ℕ, zero, suc, ◌+◌, ◌<◌, List, [], ◌∷◌, length, get_or, map, refl, sym, ap, ◌∙◌, arith}
+use Rattle.std.proofs.Common.{◌≡◌, ℕ, zero, suc, ◌<◌, List, [], ◌∷◌, length, get_or, refl, sym, ap, ◌∙◌, arith}
 use Rattle.gv_terms.specs.declared.operator.Operator.{Operator}
-use Rattle.gv_terms.specs.declared.tree.Head.{Head}
 use Rattle.gv_terms.specs.declared.tree.Head.TheVariants as head
 use Rattle.gv_terms.specs.declared.tree.TermTree.{TermTree}
 use Rattle.gv_terms.specs.declared.term.Term.{Term}

@@ -1,12 +1,12 @@
 -- What a tree shows of its root.
-use Rattle.std.proofs.Common.{◌≡◌, ℕ, List, refl, sym, ap, ◌∙◌, rules}
+use Rattle.std.proofs.Common.{◌≡◌, ℕ, List, sym, ap, ◌∙◌, rules}
 use Rattle.gv_terms.specs.declared.sort.Sort.{Sort}
 use Rattle.gv_terms.specs.declared.operator.Operator.{Operator}
 use Rattle.gv_terms.specs.declared.tree.Head.{Head}
 use Rattle.gv_terms.specs.declared.tree.Head.TheVariants as head
 use Rattle.gv_terms.specs.declared.tree.TermTree.{TermTree, the_lemmas, out-TermTree}
 use Rattle.gv_terms.specs.declared.tree.TermTree.TheVariants as tree
-use Rattle.gv_terms.specs.declared.tree.TermTree.TheOpen.{TermTree-F, Variable, Apply}
+use Rattle.gv_terms.specs.declared.tree.TermTree.TheOpen.{Variable, Apply}
 use Rattle.gv_terms.specs.Trees.{rooted}
 
 open_variable : (n : List ℕ) (s : Sort) → out-TermTree (tree.Variable n s) ≡ Variable n s

@@ -1,5 +1,5 @@
 -- Finite maps from words, as their entries with ascending keys.
-use Rattle.std.specs.Prelude.{ℕ, List, [], ◌∷◌, ◌++◌, Bool, not, Option, nat_eq, nat_lt, find, option_map}
+use Rattle.std.specs.Prelude.{ℕ, List, ◌∷◌, ◌++◌, not, Option, nat_eq, nat_lt, find, option_map}
 use Rattle.std.specs.List.{filter}
 
 -- what the map holds under a key

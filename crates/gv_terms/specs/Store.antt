@@ -1,5 +1,5 @@
 -- The trees of a store's terms, in the order in which the terms were made.
-use Rattle.std.specs.Prelude.{◌≡◌, ℕ, ◌<◌, List, [], ◌∷◌, ◌++◌, length, slice_index_or, map, Option, Some}
+use Rattle.std.specs.Prelude.{◌≡◌, ℕ, ◌<◌, ◌≤◌, Bool, true, false, List, [], ◌∷◌, ◌++◌, length, slice_index_or, map, Some}
 use Rattle.std.specs.List.{All}
 use Rattle.gv_terms.specs.declared.operator.Operator.TheVariants as op
 use Rattle.gv_terms.specs.declared.tree.Head.{Head}
@@ -8,7 +8,12 @@ use Rattle.gv_terms.specs.declared.tree.TermTree.TheVariants as tree
 use Rattle.gv_terms.specs.declared.term.Term.{Term}
 use Rattle.gv_terms.specs.declared.term.Node.{Node}
 use Rattle.gv_terms.specs.declared.stored.Stored.{Stored}
-use Rattle.gv_terms.specs.Trees.{rooted, sort_of}
+use Rattle.gv_terms.specs.declared.tree.Head.TheVariants as head
+use Rattle.gv_terms.specs.declared.value.Value.{Value}
+use Rattle.gv_terms.specs.declared.value.Value.TheVariants as val
+use Rattle.gv_terms.specs.declared.value.Env.{Env}
+use Rattle.gv_terms.specs.Sorts.{arity}
+use Rattle.gv_terms.specs.Trees.{rooted, sort_of, value_under}
 
 -- the tree of the term with a number, and `0` where there is none
 abbrev pub tree_at : List TermTree → ℕ → TermTree
@@ -49,3 +54,25 @@ pub record IsSoundAt (ts : List TermTree) (k : ℕ) (n : Stored) : Type 0 where
 
 abbrev pub AreSound : List Stored → Type 0
 AreSound ns = (k : ℕ) (d : Stored) → k < length ns → IsSoundAt (trees_of ns) k (slice_index_or ns k d)
+
+-- an operator has as many parts as it takes
+abbrev pub HasParts : Head → List Term → Type 0
+HasParts (head.Variable n s) ps = Unit {0}
+HasParts (head.Apply o) ps = length ps ≡ arity o
+
+-- Marks on the nodes of a store.
+
+abbrev pub IsMarked : List Bool → ℕ → Type 0
+IsMarked ms k = slice_index_or ms k false ≡ true
+
+-- with a node from `from` on, its parts are marked
+abbrev pub AreClosedFrom : List Stored → List Bool → ℕ → Type 0
+AreClosedFrom ns ms from = (k : ℕ) (d : Stored) → from ≤ k → k < length ms → IsMarked ms k → All (λ p. IsMarked ms p.id) (slice_index_or ns k d).parts
+
+-- the values of the parts
+abbrev pub values_at : List Value → List Term → List Value
+values_at vs ps = map (λ p. slice_index_or vs p.id val.Unit) ps
+
+-- where a node is marked, its value stands at its place
+abbrev pub AreValues : Env → List TermTree → List Bool → List Value → Type 0
+AreValues env ts ms vs = (k : ℕ) → k < length vs → IsMarked ms k → slice_index_or vs k val.Unit ≡ value_under env (tree_at ts k)

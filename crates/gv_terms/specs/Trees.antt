@@ -1,5 +1,5 @@
 -- Terms as trees: their sorts, and their values under a valuation.
-use Rattle.std.specs.Prelude.{ℕ, List, [], ◌∷◌, Bool, ◌&&◌, Option, Some, None, find, option_map}
+use Rattle.std.specs.Prelude.{ℕ, List, [], ◌∷◌, ◌&&◌, Option, Some, None, find, option_map}
 use Rattle.std.specs.Str.{bytes_eq}
 use Rattle.std.specs.Option.{unwrap_or}
 use Rattle.gv_terms.specs.declared.sort.Sort.{Sort}
@@ -10,7 +10,7 @@ use Rattle.gv_terms.specs.declared.tree.TermTree.TheVariants as tree
 use Rattle.gv_terms.specs.declared.tree.TermTree.TheOpen.{TermTree-F, Variable, Apply}
 use Rattle.gv_terms.specs.declared.value.Value.{Value}
 use Rattle.gv_terms.specs.declared.value.Env.{Env}
-use Rattle.gv_terms.specs.Sorts.{with_sort, sort_given}
+use Rattle.gv_terms.specs.Sorts.{sort_given}
 use Rattle.gv_terms.specs.Values.{zero_of, has_sort}
 use Rattle.gv_terms.specs.Meaning.{operate}
 
@@ -62,3 +62,8 @@ value_here env (Apply o values) = operate o values
 -- the value of a tree under a valuation
 unfoldable pub value_under : Env → TermTree → Value
 value_under env = fold-TermTree Value (value_here env)
+
+-- the value of a head over the values of its parts
+abbrev pub head_value : Env → Head → List Value → Value
+head_value env (head.Variable n s) vs = looked_up env n s
+head_value env (head.Apply o) vs = operate o vs

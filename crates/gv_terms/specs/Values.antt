@@ -1,8 +1,6 @@
 -- Values: their sorts, the zero of a sort, equality, and what is read of a value.
-use Rattle.std.specs.Prelude.{ℕ, ◌+◌, ◌^◌, ◌<◌, List, [], ◌∷◌, ◌++◌, Bool, true, false, not, ◌&&◌, Option, Some, None, nat_eq, nat_lt, if◌then◌else◌, length, take, drop, replicate, slice_set, slice_index_or, option_map, is_some}
+use Rattle.std.specs.Prelude.{ℕ, List, [], Bool, true, false, not, ◌&&◌, Option, Some, None, nat_eq}
 use Rattle.std.specs.Str.{bytes_eq}
-use Rattle.std.specs.List.{list_all}
-use Rattle.std.specs.Option.{unwrap_or}
 use Rattle.std.specs.Cmp.Lexicographic.{pointwise}
 use Rattle.gv_base.specs.declared.slice_val.SliceVal.{SliceVal}
 use Rattle.gv_terms.specs.declared.sort.Sort.{Sort}

@@ -3,7 +3,7 @@
 ghost use Rattle.std.specs.Prelude.{◌≡◌, ◌↔◌, ◌<◌, [], length, Some, None, IsTrue, IsSome, IfOk, IfErr, map};
 ghost use Rattle.gv_terms.specs.Trees.{sort_of, sort_of_node};
 ghost use Rattle.gv_terms.specs.declared.term.MakeFault.TheVariants as fault;
-ghost use Rattle.gv_terms.specs.Store.{tree_at, trees_at, node_tree, AreIn, Grows, IsSoundAt};
+ghost use Rattle.gv_terms.specs.Store.{tree_at, trees_at, node_tree, AreIn, Grows, IsSoundAt, AreSound, trees_of};
 
 use crate::sort::Sort;
 use crate::stored::Stored;
@@ -54,6 +54,14 @@ impl TermStore {
         ensures { IsSoundAt self.now t.id result.now }
     {
         &self.nodes[t.id as usize]
+    }
+
+    /// What the store keeps, in the order in which it was made.
+    pub fn nodes(&self) -> &[Stored]
+        ensures trees { trees_of result.now ≡ self.now }
+        ensures sound { AreSound result.now }
+    {
+        self.nodes.as_slice()
     }
 
     /// The sort of a term.

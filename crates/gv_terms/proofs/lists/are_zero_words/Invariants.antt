@@ -1,5 +1,4 @@
-use Rattle.std.proofs.Common.{◌≡◌, [], true, nat_eq, take}
-use Rattle.std.specs.Str.{bytes_eq}
+use Rattle.std.proofs.Common.{◌≡◌, true, nat_eq, take}
 use Rattle.std.specs.List.{list_all}
 use Rattle.gv_terms.proofs.lists.are_zero_words.Given as goal
 

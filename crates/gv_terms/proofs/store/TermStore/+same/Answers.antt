@@ -1,6 +1,6 @@
-use Rattle.std.proofs.Common.{◌≡◌, length, ap, sym, ◌∙◌, arith}
+use Rattle.std.proofs.Common.{length, ap, sym, ◌∙◌, arith}
 use Rattle.gv_terms.specs.declared.term.Term.{Term}
-use Rattle.gv_terms.specs.Store.{tree_at, trees_at}
+use Rattle.gv_terms.specs.Store.{trees_at}
 use Rattle.gv_terms.proofs.SameTerms.{parts_same, as_many, each_same}
 use Rattle.gv_terms.proofs.store.TermStore.+same.Goals as goal
 

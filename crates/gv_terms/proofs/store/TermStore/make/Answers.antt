@@ -1,7 +1,6 @@
-use Rattle.std.proofs.Common.{rules, ◌≡◌, ◌∷◌, ◌++◌, length, Some, None, IsSome, ◌∙◌, ap, sym, subst, arith}
-use Rattle.gv_terms.specs.declared.stored.Stored.{Stored}
+use Rattle.std.proofs.Common.{rules, ◌≡◌, Some, IsSome, ◌∙◌, ap, sym, subst, arith}
 use Rattle.gv_terms.specs.Trees.{sort_of_node}
-use Rattle.gv_terms.specs.Store.{tree_at, trees_at, trees_of, node_tree}
+use Rattle.gv_terms.specs.Store.{tree_at, trees_at, trees_of}
 use Rattle.gv_terms.proofs.NodeSorts.{node_sort, rooted_sort}
 use Rattle.gv_terms.proofs.Grown.{made_tree, made_grows, made_within, made_sound}
 use Rattle.gv_terms.proofs.store.TermStore.make.Goals as goal

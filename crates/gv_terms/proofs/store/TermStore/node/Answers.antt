@@ -1,4 +1,4 @@
-use Rattle.std.proofs.Common.{◌≡◌, length, ap, sym, subst, arith}
+use Rattle.std.proofs.Common.{length, ap, sym, subst, arith}
 use Rattle.gv_terms.specs.Store.{trees_of, IsSoundAt}
 use Rattle.gv_terms.proofs.Grown.{length_trees}
 use Rattle.gv_terms.proofs.store.TermStore.node.Goals as goal
