@@ -6,3 +6,5 @@ pub mod Meaning
 pub mod Trees
 pub mod Store
 pub mod Places
+pub mod Typed
+pub mod Specification
