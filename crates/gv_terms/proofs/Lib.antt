@@ -12,3 +12,4 @@ pub mod SameTerms
 pub mod Marked
 pub mod Arity
 pub mod Valued
+pub mod TypedFacts

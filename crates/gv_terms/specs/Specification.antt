@@ -31,40 +31,45 @@ names_of_fields fields = map (λ f. f.name) fields
 abbrev pub names_of_params : List Var → List (List ℕ)
 names_of_params params = map (λ v. v.name) params
 
--- the value of a term of the specification
-abbrev pub term_value : Spec → Env → Term → Value
-term_value s env t = value_under env (tree_at s.store t.id)
+-- the value of a term of a store
+abbrev pub term_value : List TermTree → Env → Term → Value
+term_value ts env t = value_under env (tree_at ts t.id)
 
 -- the fields under their names, and those with an operation's arguments
-abbrev pub fields_bound : Spec → List Value → List Binding
-fields_bound s fields = bound (names_of_fields s.fields) fields
+abbrev pub fields_bound : List Field → List Value → List Binding
+fields_bound fields values = bound (names_of_fields fields) values
 
-abbrev pub args_bound : Op → List Value → List Binding
-args_bound o args = bound (names_of_params o.params) args
+abbrev pub args_bound : List Var → List Value → List Binding
+args_bound params args = bound (names_of_params params) args
 
 -- the fields after assignments whose terms all speak of one valuation
-abbrev pub assigned : Spec → Env → List Assign → List Value → List Value
-assigned s env [] fields = fields
-assigned s env (a ∷ body) fields = assigned s env body (slice_set fields a.field (term_value s env a.term))
+abbrev pub assigned : List TermTree → Env → List Assign → List Value → List Value
+assigned ts env [] fields = fields
+assigned ts env (a ∷ body) fields = assigned ts env body (slice_set fields a.field (term_value ts env a.term))
 
-abbrev pub reply_value : Spec → Env → Option Term → Value
-reply_value s env None = val.Unit
-reply_value s env (Some t) = term_value s env t
+abbrev pub reply_value : List TermTree → Env → Option Term → Value
+reply_value ts env None = val.Unit
+reply_value ts env (Some t) = term_value ts env t
 
 -- the first fields
 abbrev pub first_fields : Spec → List Value
-first_fields s = map (λ f. term_value s (binds []) f.first) s.fields
+first_fields s = map (λ f. term_value s.store (binds []) f.first) s.fields
 
 -- whether an operation may be called with these arguments
 abbrev pub op_allows : Spec → Op → List Value → Bool
-op_allows s o args = truth_of (term_value s (binds (args_bound o args)) o.allowed)
+op_allows s o args = truth_of (term_value s.store (binds (args_bound o.params args)) o.allowed)
 
--- the fields and the reply after an operation with these arguments
-abbrev pub op_applied : Spec → Op → List Value → List Value → List Value × Value
-op_applied s o args fields =
-    let env = binds (fields_bound s fields ++ args_bound o args) in
-    (assigned s env o.body fields, reply_value s env o.reply)
+-- the valuation of an operation's terms: the fields and the arguments
+abbrev pub op_env : Spec → Op → List Value → List Value → Env
+op_env s o args fields = binds (fields_bound s.fields fields ++ args_bound o.params args)
+
+-- the fields after an operation with these arguments, and its reply
+abbrev pub op_fields : Spec → Op → List Value → List Value → List Value
+op_fields s o args fields = assigned s.store (op_env s o args fields) o.body fields
+
+abbrev pub op_reply : Spec → Op → List Value → List Value → Value
+op_reply s o args fields = reply_value s.store (op_env s o args fields) o.reply
 
 -- the fields after a crash and the recovery from it
 abbrev pub crashed : Spec → List Value → List Value
-crashed s fields = assigned s (binds (fields_bound s fields)) s.crash fields
+crashed s fields = assigned s.store (binds (fields_bound s.fields fields)) s.crash fields

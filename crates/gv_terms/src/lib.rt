@@ -30,4 +30,4 @@ pub use store::TermStore;
 pub use term::{MakeFault, Node, Term};
 pub use tree::{Head, RawTerm, TermTree};
 pub use valuation::eval;
-pub use value::{Binding, Env, Value};
+pub use value::{Binding, Env, NIL_SLICE, Value, copy_list, same_lists};

@@ -1,13 +1,14 @@
 //! Atomic specifications.
 
-ghost use Rattle.std.specs.Prelude.{◌≡◌, true};
+ghost use Rattle.std.specs.Prelude.{◌≡◌, true, IfOk};
 ghost use Rattle.gv_terms.specs.Typed.{is_typed};
 
 use crate::sort::Sort;
 use crate::store::TermStore;
 use crate::term::Term;
-use crate::value::Value;
-use gv_base::{List, Name};
+use crate::value::{Value, copy_list};
+use gv_base::{List, Name, NoMemory};
+use std::alloc::Global;
 
 /// A name and its sort.
 #[derive(Debug, Drop)]
@@ -62,4 +63,14 @@ pub struct Spec {
     pub crash: List<Assign>,
     pub store: TermStore,
     ghost typed: { is_typed disks blocks fields ops crash store ≡ true },
+}
+
+impl State {
+    /// An equal state.
+    pub fn copy(&self, alloc: Global) -> Result<State, NoMemory>
+        ensures { IfOk result (λ s. s ≡ self.now) }
+    {
+        let values = copy_list(alloc, &self.values)?;
+        Ok(State { values })
+    }
 }

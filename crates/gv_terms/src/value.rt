@@ -233,6 +233,16 @@ impl Value {
     }
 }
 
+impl Item for Value {
+    fn copy(&self, alloc: Global) -> Result<Value, NoMemory> {
+        Value::copy(self, alloc)
+    }
+
+    fn same(&self, other: &Value) -> bool {
+        Value::same(self, other)
+    }
+}
+
 /// The slice of no object.
 pub const NIL_SLICE: SliceVal = SliceVal {
     object: 0,
