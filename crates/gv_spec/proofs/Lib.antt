@@ -5,3 +5,4 @@ pub mod AtOnce
 pub mod SmallRuns
 pub mod RunLaws
 pub mod WalkLaws
+pub mod Assigned

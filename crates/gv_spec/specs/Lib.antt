@@ -10,3 +10,4 @@ pub mod Small
 pub mod RunLaws
 pub mod WalkLaws
 pub mod Examples
+pub mod Meaning

@@ -2,5 +2,8 @@
 #![tactic(auto)]
 
 mod laws;
+mod meaning;
 
+pub use gv_terms::{Assign, Field, Op, Spec, State, Var};
 pub use laws::{explanations, impossible_events, lasting, small_refines, small_replies, worked};
+pub use meaning::{apply, crashed, init, meets_where};

@@ -12,6 +12,7 @@ use Rattle.gv_terms.specs.declared.spec.Var.{Var}
 use Rattle.gv_terms.specs.declared.spec.Field.{Field}
 use Rattle.gv_terms.specs.declared.spec.Assign.{Assign}
 use Rattle.gv_terms.specs.declared.spec.Op.{Op}
+use Rattle.gv_terms.specs.Specification.{IsOpWithin}
 use Rattle.gv_terms.specs.Typed.{is_term, is_field, is_field_sort, is_assigned, is_assign, is_body, is_reply, is_op, is_typed, var_of, are_disks, are_names}
 
 left : (a b : Bool) → (a && b) ≡ true → a ≡ true
@@ -43,12 +44,6 @@ body_within ts fields vars body e k d lt =
 reply_within : (ts : List TermTree) (vars : List Var) (o : Option Term) → is_reply ts vars o ≡ true → IfSome o (λ t. t.id < length ts)
 reply_within ts vars None e = tt
 reply_within ts vars (Some t) e = below t.id (length ts) (left (nat_lt t.id (length ts)) _ e)
-
--- the terms of an operation are of the store
-pub record IsOpWithin (ts : List TermTree) (o : Op) : Type 0 where
-  pub allowed : o.allowed.id < length ts
-  pub body : All (λ a. a.term.id < length ts) o.body
-  pub reply : IfSome o.reply (λ t. t.id < length ts)
 
 pub op_within : (ts : List TermTree) (fields : List Var) (o : Op) → is_op ts fields o ≡ true → IsOpWithin ts o
 op_within ts fields o e =

@@ -1,6 +1,7 @@
 -- What an atomic specification means: its first fields, what an operation replies and leaves, and
 -- what a crash leaves.
-use Rattle.std.specs.Prelude.{ℕ, List, [], ◌∷◌, ◌++◌, Bool, Option, Some, None, map, slice_index_or, slice_set}
+use Rattle.std.specs.Prelude.{ℕ, ◌<◌, List, [], ◌∷◌, ◌++◌, Bool, Option, Some, None, map, slice_set, length, IfSome}
+use Rattle.std.specs.List.{All}
 use Rattle.gv_terms.specs.declared.tree.TermTree.{TermTree}
 use Rattle.gv_terms.specs.declared.term.Term.{Term}
 use Rattle.gv_terms.specs.declared.value.Value.{Value}
@@ -73,3 +74,10 @@ op_reply s o args fields = reply_value s.store (op_env s o args fields) o.reply
 -- the fields after a crash and the recovery from it
 abbrev pub crashed : Spec → List Value → List Value
 crashed s fields = assigned s.store (binds (fields_bound s.fields fields)) s.crash fields
+
+-- the terms of an operation are of the store
+pub record IsOpWithin (ts : List TermTree) (o : Op) : Type 0 where
+  pub allowed : o.allowed.id < length ts
+  pub body : All (λ a. a.term.id < length ts) o.body
+  pub reply : IfSome o.reply (λ t. t.id < length ts)
+
