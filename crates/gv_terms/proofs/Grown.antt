@@ -3,6 +3,7 @@ use Rattle.std.proofs.Common.{suc, ⊎_elim, ◌≡◌, ℕ, ◌+◌, ◌<◌, �
 use Rattle.std.specs.List.{All}
 use Rattle.std.proofs.lemmas.List.{get_or_append_left}
 use Rattle.std.proofs.lemmas.Bool.{cases_lt}
+use Rattle.std.proofs.lemmas.List.Elements.{All-append}
 use Rattle.std.proofs.Math.Seq.{get_or-append_seam}
 use Rattle.gv_terms.specs.declared.operator.Operator.TheVariants as op
 use Rattle.gv_terms.specs.declared.tree.TermTree.TheVariants as tree
@@ -109,3 +110,13 @@ made_sound old ns ms n h ps e f p q sound within sorted =
     subst AreSound (sym f) (sound_more ns n sound
     (subst (λ rs. All (λ r. r.id < length (trees_of ns)) rs) (sym q) (subst (λ ts. All (λ r. r.id < length ts) ps) (sym e) within))
     (ap (λ ts. sort_of (rooted n.head (trees_at ts n.parts))) e ∙ ap (λ g. sort_of (rooted g (trees_at old n.parts))) p ∙ ap (λ rs. sort_of (rooted h (trees_at old rs))) q ∙ sorted))
+
+-- a term more, of a store that grew
+pub one_more_in : (old new : List TermTree) (ps : List Term) (t : Term) → All (λ p. p.id < length old) ps → Grows old new → t.id < length new → All (λ p. p.id < length new) (ps ++ t ∷ [])
+one_more_in old new ps t within grows inside =
+    All-append (λ p. p.id < length new) ps (t ∷ [])
+    (below_both (length old) (length new) ps (omega (arith, ap length grows.1, length-append old grows.0)) within)
+    (λ k d lt. only k d (omega arith))
+  where
+    only : (k : ℕ) (d : Term) → k ≡ 0 → (get_or (t ∷ []) k d).id < length new
+    only k d e = subst (λ j. (get_or (t ∷ []) j d).id < length new) (sym e) inside

@@ -13,3 +13,4 @@ pub mod Marked
 pub mod Arity
 pub mod Valued
 pub mod TypedFacts
+pub mod Closed

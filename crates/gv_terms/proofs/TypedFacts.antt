@@ -13,7 +13,7 @@ use Rattle.gv_terms.specs.declared.spec.Field.{Field}
 use Rattle.gv_terms.specs.declared.spec.Assign.{Assign}
 use Rattle.gv_terms.specs.declared.spec.Op.{Op}
 use Rattle.gv_terms.specs.Specification.{IsOpWithin}
-use Rattle.gv_terms.specs.Typed.{is_term, is_field, is_field_sort, is_assigned, is_assign, is_body, is_reply, is_op, is_typed, var_of, are_disks, are_names}
+use Rattle.gv_terms.specs.Typed.{is_term, is_field, is_field_sort, is_assigned, is_assign, is_body, is_reply, is_op, is_typed, var_of, are_disks, are_names, names_of}
 
 left : (a b : Bool) → (a && b) ≡ true → a ≡ true
 left true b e = refl
@@ -65,7 +65,7 @@ module _ (disks blocks : ℕ) (fields : List Field) (ops : List Op) (crash : Lis
       term_within ts [] f.sort f.first (right (is_field_sort f.sort) _ each)
 
   last_two : (list_all (is_op ts (map var_of fields)) ops && is_body ts (map var_of fields) (map var_of fields) crash) ≡ true
-  last_two = of_six (are_disks disks blocks) (list_all (is_field ts) fields) (are_names (map (λ f. f.name) fields)) (are_names (map (λ o. o.name) ops)) (list_all (is_op ts (map var_of fields)) ops) (is_body ts (map var_of fields) (map var_of fields) crash) typed
+  last_two = of_six (are_disks disks blocks) (list_all (is_field ts) fields) (are_names (names_of (map var_of fields))) (are_names (map (λ o. o.name) ops)) (list_all (is_op ts (map var_of fields)) ops) (is_body ts (map var_of fields) (map var_of fields) crash) typed
 
   pub ops_within : All (λ o. IsOpWithin ts o) ops
   ops_within k d lt =

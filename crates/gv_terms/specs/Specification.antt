@@ -80,4 +80,3 @@ pub record IsOpWithin (ts : List TermTree) (o : Op) : Type 0 where
   pub allowed : o.allowed.id < length ts
   pub body : All (λ a. a.term.id < length ts) o.body
   pub reply : IfSome o.reply (λ t. t.id < length ts)
-

@@ -51,6 +51,9 @@ is_term ts vars s t = nat_lt t.id (length ts) && (is_sort s (sort_of (tree_at ts
 abbrev pub var_of : Field → Var
 var_of f = record { name = f.name; sort = f.sort }
 
+abbrev pub names_of : List Var → List (List ℕ)
+names_of vars = map (λ v. v.name) vars
+
 -- an initial term has no variable
 abbrev pub is_field : List TermTree → Field → Bool
 is_field ts f = is_field_sort f.sort && is_term ts [] f.sort f.first
@@ -80,12 +83,14 @@ abbrev pub is_reply : List TermTree → List Var → Option Term → Bool
 is_reply ts vars None = true
 is_reply ts vars (Some t) = nat_lt t.id (length ts) && (is_some_plain (sort_of (tree_at ts t.id)) && is_closed vars (tree_at ts t.id))
 
--- the words that are constants in every term
-abbrev pub constants : List (List ℕ)
-constants = codes "true" ∷ codes "false" ∷ codes "nil" ∷ codes "nilslice" ∷ codes "nocall" ∷ codes "mapww" ∷ codes "mapwb" ∷ []
+abbrev pub differs : List ℕ → List ℕ → Bool
+differs n word = not (bytes_eq n word)
 
+-- the name is none of the words that are constants in every term
 abbrev pub is_free : List ℕ → Bool
-is_free n = not (is_some (find (bytes_eq n) constants))
+is_free n =
+    differs n (codes "true") && (differs n (codes "false") && (differs n (codes "nil") && (differs n (codes "nilslice")
+    && (differs n (codes "nocall") && (differs n (codes "mapww") && differs n (codes "mapwb"))))))
 
 -- distinct names, none of them a constant
 abbrev pub are_names : List (List ℕ) → Bool
@@ -95,7 +100,7 @@ are_names ns = list_all is_free ns && are_distinct bytes_eq ns
 -- bear other names than the fields
 abbrev pub is_op : List TermTree → List Var → Op → Bool
 is_op ts fields o =
-    list_all (λ v. is_plain v.sort) o.params && (are_names (map (λ v. v.name) (fields ++ o.params)) && (is_term ts o.params sort.Bool o.allowed
+    list_all (λ v. is_plain v.sort) o.params && (are_names (names_of (fields ++ o.params)) && (is_term ts o.params sort.Bool o.allowed
     && (is_body ts fields (fields ++ o.params) o.body && is_reply ts (fields ++ o.params) o.reply)))
 
 -- at most two disks, of 1 to 65,536 blocks
@@ -104,5 +109,5 @@ are_disks disks blocks = (nat_eq disks 0 && nat_eq blocks 0) || (nat_lt 0 disks 
 
 abbrev pub is_typed : ℕ → ℕ → List Field → List Op → List Assign → List TermTree → Bool
 is_typed disks blocks fields ops crash ts =
-    are_disks disks blocks && (list_all (is_field ts) fields && (are_names (map (λ f. f.name) fields) && (are_names (map (λ o. o.name) ops)
+    are_disks disks blocks && (list_all (is_field ts) fields && (are_names (names_of (map var_of fields)) && (are_names (map (λ o. o.name) ops)
     && (list_all (is_op ts (map var_of fields)) ops && is_body ts (map var_of fields) (map var_of fields) crash))))

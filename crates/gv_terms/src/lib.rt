@@ -4,6 +4,7 @@
 mod item;
 mod items;
 mod lists;
+mod making;
 mod map;
 mod maps;
 mod marks;
@@ -16,16 +17,20 @@ mod spec;
 mod store;
 mod stored;
 mod term;
+#[cfg(test)]
+mod tests;
 mod tree;
+mod typing;
 mod valuation;
 mod value;
 mod words;
 
 pub use item::Item;
+pub use making::make_spec;
 pub use map::FiniteMap;
 pub use operator::Operator;
 pub use sort::Sort;
-pub use spec::{Assign, Field, Op, Spec, State, Var};
+pub use spec::{Assign, Field, Op, Spec, SpecFault, State, Var};
 pub use store::TermStore;
 pub use term::{MakeFault, Node, Term};
 pub use tree::{Head, RawTerm, TermTree};

@@ -2,13 +2,16 @@
 
 ghost use Rattle.std.specs.Prelude.{◌≡◌, true, IfOk};
 ghost use Rattle.gv_terms.specs.Typed.{is_typed};
+ghost use Rattle.gv_terms.specs.declared.spec.SpecFault.TheVariants as fault;
 
+use crate::item::Item;
 use crate::sort::Sort;
 use crate::store::TermStore;
 use crate::term::Term;
 use crate::value::{Value, copy_list};
 use gv_base::{List, Name, NoMemory};
 use std::alloc::Global;
+use thiserror::Error;
 
 /// A name and its sort.
 #[derive(Debug, Drop)]
@@ -65,6 +68,23 @@ pub struct Spec {
     ghost typed: { is_typed disks blocks fields ops crash store ≡ true },
 }
 
+/// Why parts make no specification.
+#[derive(Debug, Drop, Error)]
+pub enum SpecFault {
+    #[error("out of memory")]
+    NoMemory,
+    #[error("a specification is not typed")]
+    Untyped,
+}
+
+impl From<NoMemory> for SpecFault {
+    ghost from_gives = { λ _ e. e ≡ fault.NoMemory };
+
+    fn from(_e: NoMemory) -> SpecFault {
+        SpecFault::NoMemory
+    }
+}
+
 impl State {
     /// An equal state.
     pub fn copy(&self, alloc: Global) -> Result<State, NoMemory>
@@ -72,5 +92,18 @@ impl State {
     {
         let values = copy_list(alloc, &self.values)?;
         Ok(State { values })
+    }
+}
+
+impl Item for Var {
+    fn copy(&self, alloc: Global) -> Result<Var, NoMemory> {
+        Ok(Var {
+            name: self.name.copy(alloc)?,
+            sort: self.sort,
+        })
+    }
+
+    fn same(&self, other: &Var) -> bool {
+        self.name.same(&other.name) && self.sort == other.sort
     }
 }

@@ -3,12 +3,15 @@
 ghost use Rattle.std.specs.Prelude.{◌≡◌, ◌↔◌, ◌<◌, [], length, Some, None, IsTrue, IsSome, IfOk, IfErr, map};
 ghost use Rattle.gv_terms.specs.Trees.{sort_of, sort_of_node};
 ghost use Rattle.gv_terms.specs.declared.term.MakeFault.TheVariants as fault;
+ghost use Rattle.gv_terms.specs.Typed.{is_closed};
 ghost use Rattle.gv_terms.specs.Store.{tree_at, trees_at, node_tree, AreIn, Grows, IsSoundAt, AreSound, trees_of};
 
 use crate::sort::Sort;
+use crate::spec::Var;
 use crate::stored::Stored;
 use crate::term::{MakeFault, Node, Term};
 use crate::tree::{Head, TermTree};
+use crate::typing::is_among;
 use gv_base::{List, NoMemory, Steps};
 use std::alloc::Global;
 use std::marker::Model;
@@ -54,6 +57,13 @@ impl TermStore {
         ensures { IsSoundAt self.now t.id result.now }
     {
         &self.nodes[t.id as usize]
+    }
+
+    /// How many terms were made.
+    pub fn len(&self) -> usize
+        ensures { result ≡ length self.now }
+    {
+        self.nodes.len()
     }
 
     /// What the store keeps, in the order in which it was made.
@@ -153,6 +163,25 @@ impl TermStore {
                 }
                 for i in 0..these.len() {
                     if !self.same(these[i], those[i], steps) {
+                        return false;
+                    }
+                }
+                true
+            }
+        }
+    }
+
+    /// Whether all variables of a term are among these.
+    pub fn is_closed(&self, vars: &[Var], t: Term) -> bool
+        requires { t.id < length self.now }
+        ensures { result ≡ is_closed vars.now (tree_at self.now t.id) }
+    {
+        let node = self.node(t);
+        match &node.head {
+            Head::Variable { name, sort } => is_among(vars, name.as_slice(), *sort),
+            Head::Apply(_) => {
+                for part in node.parts.as_slice() {
+                    if !self.is_closed(vars, *part) {
                         return false;
                     }
                 }

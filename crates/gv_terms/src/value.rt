@@ -2,7 +2,7 @@
 
 ghost use Rattle.std.specs.Prelude.{◌≡◌, ◌↔◌, IfOk, IsTrue};
 ghost use Rattle.gv_terms.specs.declared.value.Value.TheVariants as val;
-ghost use Rattle.gv_terms.specs.Values.{has_sort, zero_of};
+ghost use Rattle.gv_terms.specs.Values.{has_sort, sort_of_value, zero_of};
 
 use crate::item::Item;
 use crate::items;
@@ -188,6 +188,27 @@ impl Value {
         match self {
             Value::Unit => true,
             _ => false,
+        }
+    }
+
+    /// The sort of the value; none of `Unit`.
+    pub fn sort(&self) -> Option<Sort>
+        ensures { result ≡ sort_of_value self.now }
+    {
+        match self {
+            Value::Word(_) => Some(Sort::Word),
+            Value::Bool(_) => Some(Sort::Bool),
+            Value::Bytes(_) => Some(Sort::Bytes),
+            Value::Words(_) => Some(Sort::Words),
+            Value::Refs(_) => Some(Sort::Refs),
+            Value::Blocks(_) => Some(Sort::Blocks),
+            Value::MapWW(_) => Some(Sort::MapWW),
+            Value::MapWB(_) => Some(Sort::MapWB),
+            Value::Ref(_) => Some(Sort::Ref),
+            Value::SliceS(_) => Some(Sort::SliceS),
+            Value::Call(_) => Some(Sort::Call),
+            Value::Name(_) => Some(Sort::Name),
+            Value::Unit => None,
         }
     }
 
