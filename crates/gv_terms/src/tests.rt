@@ -3,9 +3,9 @@
 ghost use Rattle.std.specs.Prelude.{IfOk};
 ghost use Rattle.gv_terms.specs.Store.{AreIn};
 
-mod list_rows;
-mod map_rows;
-mod sort_rows;
+//L
+//M
+//S
 mod word_rows;
 
 use crate::map::FiniteMap;
