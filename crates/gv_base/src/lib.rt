@@ -9,7 +9,9 @@ mod outside;
 mod places;
 mod real;
 mod reason;
+mod slice_val;
 mod small;
+mod steps;
 mod sure;
 mod token;
 
@@ -21,7 +23,9 @@ pub use outside::{FetchFail, Files, PutFail, Sink};
 pub use places::place_of;
 pub use real::{DiskFiles, StdSink};
 pub use reason::Reason;
+pub use slice_val::SliceVal;
 pub use small::{Part, Small, SmallOp, Turn};
+pub use steps::Steps;
 pub use sure::{SureFiles, SureSink};
 pub use token::{Kind, Token};
 

@@ -6,3 +6,4 @@ pub mod AtOnce
 pub mod SmallRuns
 pub mod RunLaws
 pub mod WalkLaws
+pub mod Assigned

@@ -2,6 +2,7 @@ pub mod Entry
 pub mod Event
 pub mod Examples
 pub mod Machine
+pub mod Meaning
 pub mod Move
 pub mod Reading
 pub mod Refines

@@ -3,6 +3,9 @@
 
 mod laws;
 mod small_spec;
+mod meaning;
 
+pub use gv_terms::{Assign, Field, Op, Spec, State, Var};
 pub use laws::{explanations, impossible_events, lasting, small_refines, small_replies, worked};
 pub use small_spec::read_small_spec;
+pub use meaning::{apply, crashed, init, meets_where};
