@@ -1,5 +1,6 @@
 pub mod CheckingLemmas
 pub mod ComparingLemmas
+pub mod ExactLemmas
 pub mod FilesLemmas
 pub mod PutLemmas
 pub mod RunLemmas

@@ -1,5 +1,5 @@
 -- What the sink was told, and what acceptance promises.
-use Rattle.std.specs.Prelude.{◌≡◌, ℕ, List, ◌++◌, Option}
+use Rattle.std.specs.Prelude.{◌≡◌, ℕ, ◌-◌, ◌^◌, ◌<◌, List, ◌++◌, Option, None, IsSome}
 use Rattle.gv_base.specs.Outside.{Appended, Rose}
 use Rattle.gv_base.specs.declared.small.Small.{Small}
 use Rattle.gv_gotree.specs.SmallPackage.{IsSmallPackage}
@@ -53,3 +53,24 @@ pub record IsPromised (words : List (List ℕ)) (held : List ℕ → Option (Lis
   pub script_name : List ℕ
   pub names : IsCheck words package_name spec_name script_name
   pub promises : Promises held package_name spec_name
+
+-- ---- where nothing fails
+
+-- the report that the words and the held texts deserve where no fetch fails
+abbrev pub Defines : List (List ℕ) → (List ℕ → Option (List ℕ)) → Report → Type 0
+Defines words held r = Deserves words (record { held = held; before = 0; now = 0; failed = None }) r
+
+-- it is told what is held under each file word
+abbrev pub IsTold : List (List ℕ) → (List ℕ → Option (List ℕ)) → Type 0
+IsTold words held = (p s t : List ℕ) → IsCheck words p s t → IsSome (held p) × IsSome (held s) × IsSome (held t)
+
+-- no fetch and no put failed: the counts are as before, and below their last value
+pub record IsCalm (asked : Asked) (heard : Heard) : Type 0 where
+  pub fetches : asked.now ≡ asked.before
+  pub fetches_told : asked.before < 2 ^ 64 - 1
+  pub puts : heard.faults_now ≡ heard.faults_before
+  pub puts_told : heard.faults_before < 2 ^ 64 - 1
+
+-- this report's status, and its text written
+abbrev pub IsWhole : Heard → Report → ℕ → Type 0
+IsWhole heard r status = (status ≡ status_of r) × Appended heard.before (text_of r) heard.now

@@ -11,3 +11,6 @@ mod small_script;
 pub use program::run;
 pub use report::{Cause, Report, status, text};
 pub use small_script::{SmallBlock, SmallScript, read_small_script};
+
+#[cfg(test)]
+mod tests;
