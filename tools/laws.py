@@ -54,7 +54,7 @@ def chain(grammar, rule):
         else:
             out.append(token_step(word, grammar, "tk"))
     else:
-        out.append("k")
+        out[-1] += " k"
     return " (".join(out) + ")" * (len(out) - 1)
 
 

@@ -1,3 +1,4 @@
+-- Grammars as lists, and what they derive.
 use Rattle.std.specs.Prelude.{◌≡◌, ℕ, ◌+◌, Bool, true, ◌==◌, List, [], ◌∷◌, ◌++◌, Some, slice_get, slice_index, slice_range}
 use Rattle.std.specs.List.{list_any}
 use Rattle.gv_grammar.specs.declared.symbols.Symbol.{Symbol}
