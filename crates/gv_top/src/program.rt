@@ -8,7 +8,7 @@ ghost use Rattle.gv_top.specs.Report as report;
 ghost use Rattle.gv_base.specs.declared.answers.Code.{Code as CodeForm};
 ghost use Rattle.gv_base.specs.declared.answers.Place.{Place as PlaceForm};
 ghost use Rattle.gv_small.specs.Tokens.{start};
-ghost use Rattle.gv_top.specs.Told.{IsFrontAppended, Tells, Answers, IsCutOff, IsPromised};
+ghost use Rattle.gv_top.specs.Told.{IsFrontAppended, Tells, Answers, IsCutOff, IsPromised, Defines, IsTold, IsCalm, IsWhole};
 ghost use Rattle.gv_top.specs.declared.report.Cause.{Cause as CauseForm};
 ghost use Rattle.gv_top.specs.Answers.{bytes_of};
 ghost use Rattle.gv_top.specs.declared.report.Report.{Report as ReportForm};
@@ -157,6 +157,13 @@ pub fn run<F: Files, K: Sink>(alloc: Global, words: &Vec<String>, files: &mut F,
     // 6 comes only where a put failed in this call, and then always; a front of a deserved report was written.
     ensures cut_off { result ≡ 6 → IsCutOff (texts words.now.items) (record { held = F.held files.old; before = F.faults files.old; now = F.faults files.new; failed = F.failed files.new }) (record { before = K.written out.old; now = K.written out.new; faults_before = K.faults out.old; faults_now = K.faults out.new }) }
     ensures always_cut_off { K.faults out.old < K.faults out.new → result ≡ 6 }
+
+    // Where it is told what the files hold and nothing failed, the report that the words and those texts
+    // define is written with its status, or want of memory is answered; so each status comes wherever it must.
+    ensures exact { (r : ReportForm) → Defines (texts words.now.items) (F.held files.old) r → r ≢ ReportForm.OutOfMemory → IsTold (texts words.now.items) (F.held files.old)
+        → IsCalm (record { held = F.held files.old; before = F.faults files.old; now = F.faults files.new; failed = F.failed files.new }) (record { before = K.written out.old; now = K.written out.new; faults_before = K.faults out.old; faults_now = K.faults out.new })
+        → IsWhole (record { before = K.written out.old; now = K.written out.new; faults_before = K.faults out.old; faults_now = K.faults out.new }) r result
+        ⊎ IsWhole (record { before = K.written out.old; now = K.written out.new; faults_before = K.faults out.old; faults_now = K.faults out.new }) ReportForm.OutOfMemory result }
 
     // No other status comes.
     ensures known { result ≤ 6 }

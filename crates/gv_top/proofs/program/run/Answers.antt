@@ -1,6 +1,7 @@
 use Rattle.std.proofs.Common.{arith, refl}
 use Rattle.gv_top.specs.Deserved.{Asked, texts}
 use Rattle.gv_top.specs.Told.{Heard}
+use Rattle.gv_top.proofs.ExactLemmas.{exact}
 use Rattle.gv_top.proofs.RunLemmas as run
 use Rattle.gv_top.proofs.program.run.Goals as goal
 
@@ -25,5 +26,6 @@ returns g c =
       memory = λ e. run.out_of_memory words asked heard (run.below_six words asked heard r status 5 d t e (omega arith));
       cut_off = run.cut_off words asked heard r status d t;
       always_cut_off = run.always_cut_off words asked heard r status d t;
+      exact = λ q f n told calm. exact words asked heard told calm r q status d t f n;
       known = run.known words asked heard r status d t;
     }
