@@ -5,3 +5,4 @@ pub mod FilesLemmas
 pub mod PutLemmas
 pub mod RunLemmas
 pub mod ScriptLemmas
+pub mod WrittenLemmas

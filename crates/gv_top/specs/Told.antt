@@ -1,5 +1,6 @@
 -- What the sink was told, and what acceptance promises.
-use Rattle.std.specs.Prelude.{◌≡◌, ℕ, ◌-◌, ◌^◌, ◌<◌, List, ◌++◌, Option, None, IsSome}
+use Rattle.std.specs.Prelude.{◌≡◌, ℕ, ◌-◌, ◌^◌, ◌<◌, List, ◌++◌, Option, None, IsSome, true, not, ◌==◌}
+use Rattle.std.specs.List.{list_all}
 use Rattle.gv_base.specs.Outside.{Appended, Rose}
 use Rattle.gv_base.specs.declared.small.Small.{Small}
 use Rattle.gv_gotree.specs.SmallPackage.{IsSmallPackage}
@@ -74,3 +75,10 @@ pub record IsCalm (asked : Asked) (heard : Heard) : Type 0 where
 -- this report's status, and its text written
 abbrev pub IsWhole : Heard → Report → ℕ → Type 0
 IsWhole heard r status = (status ≡ status_of r) × Appended heard.before (text_of r) heard.now
+
+-- no file word holds a newline
+abbrev pub HasNoNewline : List ℕ → Type 0
+HasNoNewline name = list_all (λ b. not (b == 10)) name ≡ true
+
+abbrev pub AreOneLine : List (List ℕ) → Type 0
+AreOneLine words = (p s t : List ℕ) → IsCheck words p s t → HasNoNewline p × HasNoNewline s × HasNoNewline t

@@ -8,7 +8,7 @@ ghost use Rattle.gv_top.specs.Report as report;
 ghost use Rattle.gv_base.specs.declared.answers.Code.{Code as CodeForm};
 ghost use Rattle.gv_base.specs.declared.answers.Place.{Place as PlaceForm};
 ghost use Rattle.gv_small.specs.Tokens.{start};
-ghost use Rattle.gv_top.specs.Told.{IsFrontAppended, Tells, Answers, IsCutOff, IsPromised, Defines, IsTold, IsCalm, IsWhole};
+ghost use Rattle.gv_top.specs.Told.{IsFrontAppended, Tells, Answers, IsCutOff, IsPromised, Defines, IsTold, IsCalm, IsWhole, AreOneLine};
 ghost use Rattle.gv_top.specs.declared.report.Cause.{Cause as CauseForm};
 ghost use Rattle.gv_top.specs.Answers.{bytes_of};
 ghost use Rattle.gv_top.specs.declared.report.Report.{Report as ReportForm};
@@ -141,6 +141,11 @@ pub fn run<F: Files, K: Sink>(alloc: Global, words: &Vec<String>, files: &mut F,
     // Where the status is 0 and it is told what the files hold, every run of the package without a crash
     // is explained by the specification.
     ensures promise { result ≡ 0 → IsPromised (texts words.now.items) (F.held files.old) }
+
+    // The same holds whatever the status is, where no file word holds a newline and what was written is the
+    // whole report of acceptance.
+    ensures written_promise { (old : Seq ℕ) → K.written out.old ≡ Some old → K.written out.new ≡ Some (old ++ report.text_of ReportForm.AcceptedWithoutCrash)
+        → AreOneLine (texts words.now.items) → IsPromised (texts words.now.items) (F.held files.old) }
 
     // Words that are no command are answered by usage, and never by want of memory; other words never are.
     ensures usage { IsNoCommand (texts words.now.items) → (result ≡ 2) ⊎ (result ≡ 6) }

@@ -3,6 +3,7 @@ use Rattle.gv_top.specs.Deserved.{Asked, texts}
 use Rattle.gv_top.specs.Told.{Heard}
 use Rattle.gv_top.proofs.ExactLemmas.{exact}
 use Rattle.gv_top.proofs.RunLemmas as run
+use Rattle.gv_top.proofs.WrittenLemmas.{written}
 use Rattle.gv_top.proofs.program.run.Goals as goal
 
 pub returns : goal.returns
@@ -16,6 +17,7 @@ returns g c =
     let t = c.tell.ensures in
     record {
       promise = λ e. let a = run.accepted words asked heard (run.below_six words asked heard r status 0 d t e (omega arith)) in run.promised words asked _ refl a.0;
+      written_promise = λ old before now lines. written words asked heard lines r status old d t before now;
       usage = run.usage_status words asked heard r status d t;
       usage_only = λ e. let a = run.usage_line words asked heard (run.below_six words asked heard r status 2 d t e (omega arith)) in run.only_usage words asked heard _ refl a.0;
       accepted = λ e. run.accepted words asked heard (run.below_six words asked heard r status 0 d t e (omega arith));
