@@ -58,12 +58,6 @@ def symbol_source(grammar, word):
     return f"Symbol::Token({set_constant(word)})"
 
 
-def braces(names):
-    """A list of imports in Rust's order: one name stands without braces."""
-    names = sorted(names, key=lambda name: (not name.isupper(), name.lower() != name, name))
-    return names[0] if len(names) == 1 else "{" + ", ".join(names) + "}"
-
-
 def constants(pairs, kind):
     return "".join(f"pub const {name}: {kind} = {value};\n\n" for name, value in pairs)
 
@@ -150,7 +144,7 @@ returns-clause-predictive c = {stem}_predictive
 
 
 def import_list(names):
-    """Names of one `use`, in the order of `rt fmt`: constants after types is as plain bytes sort."""
+    """The names of one `use`."""
     return "{" + ", ".join(sorted(names)) + "}"
 
 
