@@ -14,3 +14,5 @@ pub mod Arity
 pub mod Valued
 pub mod TypedFacts
 pub mod Closed
+pub mod Ascending
+pub mod MapLaws

@@ -1,6 +1,6 @@
 -- Finite maps from words, as their entries with ascending keys.
-use Rattle.std.specs.Prelude.{ℕ, List, ◌∷◌, ◌++◌, not, Option, nat_eq, nat_lt, find, option_map}
-use Rattle.std.specs.List.{filter}
+use Rattle.std.specs.Prelude.{ℕ, List, [], ◌∷◌, ◌++◌, Bool, true, not, ◌&&◌, Option, nat_eq, nat_lt, find, option_map}
+use Rattle.std.specs.List.{list_all, filter}
 
 -- what the map holds under a key
 abbrev pub entry_at : {V : Type 0} → List (ℕ × V) → ℕ → Option V
@@ -13,3 +13,8 @@ with_entry m k v = filter (λ e. nat_lt e.0 k) m ++ ((k, v) ∷ filter (λ e. na
 -- the map without the key
 abbrev pub without : {V : Type 0} → List (ℕ × V) → ℕ → List (ℕ × V)
 without m k = filter (λ e. not (nat_eq e.0 k)) m
+
+-- whether each key is below every later one
+abbrev pub ascends : {V : Type 0} → List (ℕ × V) → Bool
+ascends [] = true
+ascends (e ∷ es) = list_all (λ d. nat_lt e.0 d.0) es && ascends es

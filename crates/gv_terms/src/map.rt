@@ -23,7 +23,12 @@ impl<V> Model for FiniteMap<V> {
 
     ghost Value = { Seq (ℕ × V) };
 
+    ghost use Rattle.std.specs.Prelude.{◌≡◌, true};
+    ghost use Rattle.gv_terms.specs.Maps.{ascends};
+
     ghost view = { λ m. m.entries.items };
+
+    ghost invariant = { λ m. ascends m.entries.items ≡ true };
 }
 
 impl<V> FiniteMap<V> {

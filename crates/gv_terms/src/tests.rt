@@ -3,9 +3,7 @@
 ghost use Rattle.std.specs.Prelude.{IfOk};
 ghost use Rattle.gv_terms.specs.Store.{AreIn};
 
-//L
-//M
-//S
+mod sort_rows;
 mod word_rows;
 
 use crate::map::FiniteMap;
