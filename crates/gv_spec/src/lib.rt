@@ -2,10 +2,12 @@
 #![tactic(auto)]
 
 mod laws;
-mod small_spec;
 mod meaning;
+#[cfg(test)]
+mod meaning_rows;
+mod small_spec;
 
 pub use gv_terms::{Assign, Field, Op, Spec, State, Var};
 pub use laws::{explanations, impossible_events, lasting, small_refines, small_replies, worked};
-pub use small_spec::read_small_spec;
 pub use meaning::{apply, crashed, init, meets_where};
+pub use small_spec::read_small_spec;
