@@ -3,6 +3,8 @@
 
 mod laws;
 mod meaning;
+#[cfg(test)]
+mod meaning_rows;
 
 pub use gv_terms::{Assign, Field, Op, Spec, State, Var};
 pub use laws::{explanations, impossible_events, lasting, small_refines, small_replies, worked};
