@@ -87,3 +87,21 @@ pub enum RawTerm {
     Variable(Name),
     Apply(Operator, List<RawTerm>),
 }
+
+impl RawTerm {
+    /// An equal term.
+    pub fn copy(&self, alloc: Global) -> Result<RawTerm, NoMemory>
+        ensures { IfOk result (λ t. t ≡ self.now) }
+    {
+        match self {
+            RawTerm::Variable(name) => Ok(RawTerm::Variable(name.copy(alloc)?)),
+            RawTerm::Apply(operator, parts) => {
+                let mut copies = Vec::new(alloc);
+                for part in parts.as_slice() {
+                    copies.push(part.copy(alloc)?)?;
+                }
+                Ok(RawTerm::Apply(*operator, List::from_vec(copies)))
+            }
+        }
+    }
+}
