@@ -3,6 +3,8 @@
 ghost use Rattle.std.specs.Prelude.{IfOk};
 ghost use Rattle.gv_terms.specs.Store.{AreIn};
 
+mod list_rows;
+mod map_rows;
 mod sort_rows;
 mod word_rows;
 
