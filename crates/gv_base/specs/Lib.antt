@@ -1,5 +1,6 @@
 pub mod Codes
 pub mod formers
+pub mod Memory
 pub mod Outside
 pub mod Places
 pub mod Tokens

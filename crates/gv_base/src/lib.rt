@@ -3,6 +3,7 @@
 
 mod answers;
 mod list;
+mod mem_sink;
 mod memory;
 mod name;
 mod outside;
@@ -17,7 +18,8 @@ mod token;
 
 pub use answers::{Code, NoMemory, Place, Refusal};
 pub use list::List;
-pub use memory::{Held, MemFiles, MemSink};
+pub use mem_sink::MemSink;
+pub use memory::{Held, MemFiles};
 pub use name::Name;
 pub use outside::{FetchFail, Files, PutFail, Sink};
 pub use places::place_of;

@@ -1,13 +1,13 @@
-//! Files and a sink in memory, which fail at the calls of a list.
+//! Files in memory, which fail at the calls of a list.
 
-ghost use Rattle.std.specs.Prelude.{◌≡◌, ◌+◌, ◌-◌, ◌^◌, ◌<◌, ◌≤◌, [], take, IfOk, IfErr, None, Some, ℕ, List as Seq, vec_len, vec_capacity};
+ghost use Rattle.std.specs.Prelude.{◌≡◌, ◌+◌, ◌-◌, ◌^◌, ◌<◌, ◌≤◌, take, length, IfOk, IfErr, ℕ, List as Seq};
 ghost use Rattle.std.specs.Option.{option_copied};
-ghost use Rattle.gv_base.specs.Outside.{bytes_under};
+ghost use Rattle.gv_base.specs.Outside.{bytes_under, Fetched, FetchCause, FetchName};
+ghost use Rattle.gv_base.specs.Memory.{holding, fetches_to_fail, fetches, IsFetchAsListed};
 
-use crate::answers::NoMemory;
 use crate::list::List;
 use crate::name::Name;
-use crate::outside::{FetchFail, Files, PutFail, Sink};
+use crate::outside::{FetchFail, Files};
 use std::alloc::Global;
 
 /// A name, and the bytes that are held under it. This project's own.
@@ -57,6 +57,8 @@ impl MemFiles {
     pub fn new(held: List<Held>, fails: List<u64>) -> MemFiles
         ensures held { (name : Seq ℕ) → ⟦<MemFiles as Files>⟧.held result name ≡ bytes_under held name }
         ensures no_fault { ⟦<MemFiles as Files>⟧.faults result ≡ 0 }
+        ensures given { (holding result ≡ held) × (fetches_to_fail result ≡ fails) }
+        ensures no_call { fetches result ≡ 0 }
     {
         MemFiles {
             held,
@@ -75,7 +77,16 @@ impl Files for MemFiles {
 
     ghost faults = { λ s. s.faults };
 
-    fn fetch(&mut self, alloc: Global, name: &str, most: u64) -> Result<Vec<u8>, FetchFail> {
+    fn fetch(&mut self, alloc: Global, name: &str, most: u64) -> Result<Vec<u8>, FetchFail>
+        requires { most < 2 ^ 64 - 1 }
+        ensures bytes { IfOk result (λ v. Fetched (bytes_under self.old.held name.now) most v.items) }
+        ensures within { IfOk result (λ v. length v.items ≤ most + 1) }
+        ensures kept { (other : Seq ℕ) → bytes_under self.new.held other ≡ bytes_under self.old.held other }
+        ensures cause { FetchCause self.old.faults self.new.faults result }
+        ensures name { FetchName self.old.failed self.new.failed name.now result }
+        ensures exact { IsFetchAsListed self.old name.now self.new result }
+        ensures given { (holding self.new ≡ holding self.old) × (fetches_to_fail self.new ≡ fetches_to_fail self.old) }
+    {
         let found = match find_held(self.held.as_slice(), name.as_bytes()) {
             Some(bytes) => Some(front(alloc, bytes.as_slice(), most)?),
             None => None,
@@ -90,64 +101,5 @@ impl Files for MemFiles {
                 Err(FetchFail::Failed)
             }
         }
-    }
-}
-
-/// A sink in memory with room for so many bytes, which fails at the puts of a list. A put that goes
-/// past the room writes what fits and fails. This project's own.
-#[derive(Debug, Drop)]
-pub struct MemSink {
-    bytes: Vec<u8>,
-    room: u64,
-    fails: List<u64>,
-    calls: u64,
-    faults: u64,
-    ghost within: { vec_len bytes ≤ room },
-    ghost has_room: { room ≤ vec_capacity bytes },
-}
-
-impl MemSink {
-    /// A sink with room for `room` bytes, where nothing is written yet, which fails at the puts with
-    /// these numbers, counted from 1.
-    pub fn new(alloc: Global, room: u64, fails: List<u64>) -> Result<MemSink, NoMemory>
-        ensures empty { IfOk result (λ s. ⟦<MemSink as Sink>⟧.written s ≡ Some []) }
-        ensures no_fault { IfOk result (λ s. ⟦<MemSink as Sink>⟧.faults s ≡ 0) }
-    {
-        Ok(MemSink {
-            bytes: Vec::with_capacity(alloc, room as usize)?,
-            room,
-            fails,
-            calls: 0,
-            faults: 0,
-        })
-    }
-
-    /// The bytes that are written.
-    pub fn written(&self) -> &Vec<u8>
-        ensures { ⟦<MemSink as Sink>⟧.written self.now ≡ Some result.now.items }
-    {
-        &self.bytes
-    }
-}
-
-impl Sink for MemSink {
-    ghost written = { λ s. Some s.bytes.items };
-
-    ghost faults = { λ s. s.faults };
-
-    fn put(&mut self, piece: &[u8]) -> Result<(), PutFail> {
-        self.calls = self.calls.saturating_add(1);
-        let left = self.room as usize - self.bytes.len();
-        if self.fails.as_slice().contains(&self.calls) {
-            self.faults = self.faults.saturating_add(1);
-            return Err(PutFail::Failed);
-        }
-        if piece.len() > left {
-            self.bytes.extend_from_slice(&piece[..left]).unwrap();
-            self.faults = self.faults.saturating_add(1);
-            return Err(PutFail::Failed);
-        }
-        self.bytes.extend_from_slice(piece).unwrap();
-        Ok(())
     }
 }

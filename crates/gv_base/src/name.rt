@@ -6,12 +6,14 @@ use crate::answers::NoMemory;
 use std::alloc::Global;
 use std::hash::{Hash, Hasher};
 use std::marker::Model;
+use std::rc::Rc;
 
 /// A name or another string of bytes, which contracts see as the list of its bytes.
-/// Two names are equal exactly where their bytes are. This project's own.
+/// Two names are equal exactly where their bytes are. The bytes never change, and a name and its
+/// copies hold them together. This project's own.
 #[derive(Debug, Drop)]
 pub struct Name {
-    bytes: Vec<u8>,
+    bytes: Rc<Vec<u8>>,
 }
 
 impl Model for Name {
@@ -19,23 +21,23 @@ impl Model for Name {
 
     ghost Value = { Seq ℕ };
 
-    ghost view = { λ n. n.bytes.items };
+    ghost view = { λ n. n.bytes.value.items };
 }
 
 impl Name {
     /// The name of a vector's bytes.
-    pub fn from_vec(bytes: Vec<u8>) -> Name
-        ensures { result ≡ bytes.items }
+    pub fn from_vec(alloc: Global, bytes: Vec<u8>) -> Result<Name, NoMemory>
+        ensures { IfOk result (λ name. name ≡ bytes.items) }
     {
-        Name { bytes }
+        let bytes = Rc::new(alloc, bytes)?;
+        Ok(Name { bytes })
     }
 
     /// The name of these bytes, which are copied.
     pub fn from_slice(alloc: Global, bytes: &[u8]) -> Result<Name, NoMemory>
         ensures { IfOk result (λ name. name ≡ bytes.now) }
     {
-        let bytes = Vec::from_slice(alloc, bytes)?;
-        Ok(Name { bytes })
+        Name::from_vec(alloc, Vec::from_slice(alloc, bytes)?)
     }
 
     /// The bytes, in their order.
@@ -52,11 +54,12 @@ impl Name {
         self.bytes.len()
     }
 
-    /// An equal name.
-    pub fn copy(&self, alloc: Global) -> Result<Name, NoMemory>
+    /// An equal name, which holds the same bytes.
+    pub fn copy(&self, _alloc: Global) -> Result<Name, NoMemory>
         ensures { IfOk result (λ name. name ≡ self.now) }
     {
-        Name::from_slice(alloc, self.bytes.as_slice())
+        let bytes = self.bytes.clone()?;
+        Ok(Name { bytes })
     }
 }
 

@@ -48,7 +48,7 @@ impl Value {
             Value::Bytes(x) => {
                 let byte = (v.word() % 256) as u8;
                 let items = items::with_item(alloc, x.as_slice(), i, byte)?;
-                Ok(Value::Bytes(Name::from_vec(items)))
+                Ok(Value::Bytes(Name::from_vec(alloc, items)?))
             }
             Value::Words(x) => {
                 let items = items::with_item(alloc, x.as_slice(), i, v.word())?;
@@ -59,7 +59,7 @@ impl Value {
                 Ok(Value::Refs(List::from_vec(items)))
             }
             Value::Blocks(x) => {
-                let block = Name::from_slice(alloc, v.bytes())?;
+                let block = v.block(alloc)?;
                 let items = items::with_item(alloc, x.as_slice(), i, block)?;
                 Ok(Value::Blocks(List::from_vec(items)))
             }
@@ -74,7 +74,7 @@ impl Value {
         match self {
             Value::Bytes(x) => {
                 let items = items::part(alloc, x.as_slice(), a, b)?;
-                Ok(Value::Bytes(Name::from_vec(items)))
+                Ok(Value::Bytes(Name::from_vec(alloc, items)?))
             }
             Value::Words(x) => {
                 let items = items::part(alloc, x.as_slice(), a, b)?;
@@ -99,7 +99,7 @@ impl Value {
         match (self, other) {
             (Value::Bytes(x), Value::Bytes(y)) => {
                 let items = items::join(alloc, x.as_slice(), y.as_slice())?;
-                Ok(Value::Bytes(Name::from_vec(items)))
+                Ok(Value::Bytes(Name::from_vec(alloc, items)?))
             }
             (Value::Words(x), Value::Words(y)) => {
                 let items = items::join(alloc, x.as_slice(), y.as_slice())?;
@@ -152,7 +152,7 @@ fn block_at(alloc: Global, blocks: &[Name], i: u64) -> Result<Name, NoMemory>
 {
     match blocks.get(i as usize) {
         Some(block) => Ok(block.copy(alloc)?),
-        None => Ok(Name::from_vec(Vec::new(alloc))),
+        None => Name::from_vec(alloc, Vec::new(alloc)),
     }
 }
 

@@ -16,7 +16,7 @@ impl Value {
             Value::MapWW(m) => Ok(Value::Word(m.get(k).copied().unwrap_or(0))),
             Value::MapWB(m) => match m.get(k) {
                 Some(item) => Ok(Value::Bytes(item.copy(alloc)?)),
-                None => Ok(Value::Bytes(Name::from_vec(Vec::new(alloc)))),
+                None => Ok(Value::Bytes(Name::from_vec(alloc, Vec::new(alloc))?)),
             },
             _ => Ok(Value::Unit),
         }
@@ -40,7 +40,7 @@ impl Value {
         match self {
             Value::MapWW(m) => Ok(Value::MapWW(m.with(alloc, k, v.word())?)),
             Value::MapWB(m) => {
-                let item = Name::from_slice(alloc, v.bytes())?;
+                let item = v.block(alloc)?;
                 Ok(Value::MapWB(m.with(alloc, k, item)?))
             }
             _ => Ok(Value::Unit),

@@ -78,7 +78,7 @@ impl Operator {
             Operator::Cat => a.both_lists(alloc, b),
             Operator::Put64 => {
                 let bytes = words::put64(alloc, a.bytes(), b.word())?;
-                Ok(Value::Bytes(Name::from_vec(bytes)))
+                Ok(Value::Bytes(Name::from_vec(alloc, bytes)?))
             }
             Operator::Get => a.held_at(alloc, b.word()),
             Operator::Has => Ok(a.holds_at(b.word())),
@@ -151,13 +151,13 @@ fn bytes_of_copies(alloc: Global, k: u64, a: &Value) -> Result<Name, NoMemory>
     ensures { IfOk result (λ x. x ≡ replicate k (word_of a.now % 256)) }
 {
     let byte = (a.word() % 256) as u8;
-    Ok(Name::from_vec(items::copies(alloc, k, &byte)?))
+    Name::from_vec(alloc, items::copies(alloc, k, &byte)?)
 }
 
-// So many copies of the byte string.
+// So many copies of the byte string, which hold its bytes together.
 fn blocks_of_copies(alloc: Global, k: u64, a: &Value) -> Result<List<Name>, NoMemory>
     ensures { IfOk result (λ x. x ≡ replicate k (bytes_of a.now)) }
 {
-    let block = Name::from_slice(alloc, a.bytes())?;
+    let block = a.block(alloc)?;
     Ok(List::from_vec(items::copies(alloc, k, &block)?))
 }

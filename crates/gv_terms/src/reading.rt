@@ -1,10 +1,11 @@
 //! What is read of a value: what it holds, and the zero where it is of another sort.
 
-ghost use Rattle.std.specs.Prelude.{◌≡◌};
+ghost use Rattle.std.specs.Prelude.{◌≡◌, IfOk};
 ghost use Rattle.gv_terms.specs.Values.{word_of, truth_of, bytes_of, ref_of, slice_of, value_eq};
 
 use crate::value::{NIL_SLICE, Value};
-use gv_base::SliceVal;
+use gv_base::{Name, NoMemory, SliceVal};
+use std::alloc::Global;
 
 impl Value {
     /// The word, or 0.
@@ -34,6 +35,16 @@ impl Value {
         match self {
             Value::Bytes(x) => x.as_slice(),
             _ => &[],
+        }
+    }
+
+    /// A byte string that holds the bytes together with the value, or the empty one.
+    pub fn block(&self, alloc: Global) -> Result<Name, NoMemory>
+        ensures { IfOk result (λ x. x ≡ bytes_of self.now) }
+    {
+        match self {
+            Value::Bytes(x) => x.copy(alloc),
+            _ => Name::from_vec(alloc, Vec::new(alloc)),
         }
     }
 

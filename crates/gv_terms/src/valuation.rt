@@ -117,7 +117,7 @@ impl Env {
     {
         match value_for(self.bindings.as_slice(), name.as_slice(), sort) {
             Some(value) => value.copy(alloc),
-            None => Ok(Value::zero(alloc, sort)),
+            None => Value::zero(alloc, sort),
         }
     }
 }

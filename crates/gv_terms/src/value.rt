@@ -234,22 +234,22 @@ impl Value {
     }
 
     /// The zero of a sort.
-    pub fn zero(alloc: Global, sort: Sort) -> Value
-        ensures { result ≡ zero_of sort }
+    pub fn zero(alloc: Global, sort: Sort) -> Result<Value, NoMemory>
+        ensures { IfOk result (λ v. v ≡ zero_of sort) }
     {
         match sort {
-            Sort::Word => Value::Word(0),
-            Sort::Bool => Value::Bool(false),
-            Sort::Bytes => Value::Bytes(Name::from_vec(Vec::new(alloc))),
-            Sort::Words => Value::Words(List::new(alloc)),
-            Sort::Refs => Value::Refs(List::new(alloc)),
-            Sort::Blocks => Value::Blocks(List::new(alloc)),
-            Sort::MapWW => Value::MapWW(FiniteMap::new(alloc)),
-            Sort::MapWB => Value::MapWB(FiniteMap::new(alloc)),
-            Sort::Ref => Value::Ref(0),
-            Sort::SliceS => Value::SliceS(NIL_SLICE),
-            Sort::Call => Value::Call(0),
-            Sort::Name => Value::Name(Name::from_vec(Vec::new(alloc))),
+            Sort::Word => Ok(Value::Word(0)),
+            Sort::Bool => Ok(Value::Bool(false)),
+            Sort::Bytes => Ok(Value::Bytes(Name::from_vec(alloc, Vec::new(alloc))?)),
+            Sort::Words => Ok(Value::Words(List::new(alloc))),
+            Sort::Refs => Ok(Value::Refs(List::new(alloc))),
+            Sort::Blocks => Ok(Value::Blocks(List::new(alloc))),
+            Sort::MapWW => Ok(Value::MapWW(FiniteMap::new(alloc))),
+            Sort::MapWB => Ok(Value::MapWB(FiniteMap::new(alloc))),
+            Sort::Ref => Ok(Value::Ref(0)),
+            Sort::SliceS => Ok(Value::SliceS(NIL_SLICE)),
+            Sort::Call => Ok(Value::Call(0)),
+            Sort::Name => Ok(Value::Name(Name::from_vec(alloc, Vec::new(alloc))?)),
         }
     }
 }
