@@ -3,6 +3,7 @@
 ghost use Rattle.std.specs.Prelude.{IfOk};
 ghost use Rattle.gv_terms.specs.Store.{AreIn};
 
+mod large_lists;
 mod list_rows;
 mod map_rows;
 mod sort_rows;
