@@ -16,3 +16,4 @@ pub mod TypedFacts
 pub mod Closed
 pub mod Ascending
 pub mod MapLaws
+pub mod ValueSorts

@@ -8,3 +8,4 @@ pub mod Store
 pub mod Places
 pub mod Typed
 pub mod Specification
+pub mod Laws

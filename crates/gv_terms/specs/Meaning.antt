@@ -1,5 +1,6 @@
 -- The value of an operator over values. Where a value has another sort than the operator wants,
--- it is read as the zero, and an operator on lists or maps gives `Unit`; terms with a sort never come there.
+-- it is read as the zero, and an operator on lists or maps gives `Unit`; terms with a sort never come
+-- there, since the value of each of their parts has the part's sort (`ValuesHaveSorts` of `Laws`).
 use Rattle.std.specs.Prelude.{ℕ, ◌+◌, ◌%◌, ◌^◌, List, [], ◌++◌, Bool, true, false, not, ◌&&◌, ◌||◌, nat_eq, nat_lt, nat_le, if◌then◌else◌, length, take, drop, replicate, slice_set, slice_index_or, is_some, bit_and, bit_or, bit_xor}
 use Rattle.std.specs.Str.{bytes_eq}
 use Rattle.std.specs.List.{list_all}

@@ -3,6 +3,7 @@
 
 mod item;
 mod items;
+mod laws;
 mod lists;
 mod making;
 mod map;
@@ -26,6 +27,7 @@ mod value;
 mod words;
 
 pub use item::Item;
+pub use laws::values_of_trees;
 pub use making::make_spec;
 pub use map::FiniteMap;
 pub use operator::Operator;

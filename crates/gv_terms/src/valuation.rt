@@ -4,10 +4,10 @@ ghost use Rattle.std.specs.Prelude.{◌≡◌, ◌<◌, ◌≤◌, ◌&&◌, len
 ghost use Rattle.std.specs.List.{All, find};
 ghost use Rattle.std.specs.Option.{option_copied, option_map};
 ghost use Rattle.std.specs.Str.{bytes_eq};
-ghost use Rattle.gv_terms.specs.Values.{has_sort};
+ghost use Rattle.gv_terms.specs.Values.{has_sort, sort_of_value};
 ghost use Rattle.gv_terms.specs.Sorts.{arity};
 ghost use Rattle.gv_terms.specs.Meaning.{operate};
-ghost use Rattle.gv_terms.specs.Trees.{looked_up, head_value, value_under};
+ghost use Rattle.gv_terms.specs.Trees.{looked_up, head_value, sort_of, value_under};
 ghost use Rattle.gv_terms.specs.Store.{tree_at, trees_of, values_at, AreSound, AreClosedFrom, AreValues, HasParts, IsMarked};
 
 use crate::marks;
@@ -22,10 +22,11 @@ use gv_base::{Name, NoMemory};
 use std::alloc::Global;
 
 /// The value of a term: of a variable the first value of the valuation that has its name and sort,
-/// or the zero of the sort where there is none.
+/// or the zero of the sort where there is none. It has the term's sort.
 pub fn eval(alloc: Global, store: &TermStore, t: Term, env: &Env) -> Result<Value, NoMemory>
     requires { t.id < length store.now }
-    ensures { IfOk result (λ v. v ≡ value_under env.now (tree_at store.now t.id)) }
+    ensures value { IfOk result (λ v. v ≡ value_under env.now (tree_at store.now t.id)) }
+    ensures sort { IfOk result (λ v. sort_of_value v ≡ sort_of (tree_at store.now t.id)) }
 {
     value_of_last(alloc, store.nodes(), t.id as usize, env)
 }
