@@ -17,3 +17,4 @@ pub mod Closed
 pub mod Ascending
 pub mod MapLaws
 pub mod ValueSorts
+pub mod ValueRanges

@@ -11,6 +11,8 @@ use Rattle.gv_terms.specs.declared.value.Value.{Value}
 use Rattle.gv_terms.specs.declared.value.Value.TheVariants as val
 use Rattle.gv_terms.specs.declared.value.Binding.{Binding}
 use Rattle.gv_terms.specs.declared.value.Env.{Env}
+use Rattle.gv_terms.specs.declared.tree.Head.TheVariants as head
+use Rattle.gv_terms.specs.declared.stored.Stored.{Stored}
 use Rattle.gv_terms.specs.declared.tree.TermTree.{TermTree}
 use Rattle.gv_terms.specs.declared.tree.TermTree.TheVariants as tree
 use Rattle.gv_terms.specs.declared.tree.TermTree.TheOpen.{TermTree-F, Variable, Apply}
@@ -20,8 +22,6 @@ use Rattle.gv_terms.specs.Sorts.{sort_given, sort_number, sort_eq, takes, with_s
 use Rattle.gv_terms.specs.Values.{zero_of, sort_of_value, is_sort, has_sort}
 use Rattle.gv_terms.specs.Meaning.{operate, part, length_of, item_at, with_item, items_between, both_lists, all_zero, held_at, holds_at, map_with, map_without}
 use Rattle.gv_terms.specs.Trees.{sort_of, all_sorts, with_sorts, value_under}
-use Rattle.gv_terms.specs.declared.tree.Head.TheVariants as head
-use Rattle.gv_terms.specs.declared.stored.Stored.{Stored}
 use Rattle.gv_terms.specs.Store.{tree_at, trees_of, AreSound}
 use Rattle.gv_terms.specs.Laws.{ValuesHaveSorts}
 use Rattle.gv_terms.proofs.NodeSorts.{sort_variable, sort_apply}
@@ -49,11 +49,11 @@ at_number sort.Name = refl
 same_sort : (r s : Sort) → sort_eq r s ≡ true → r ≡ s
 same_sort r s e = sym (at_number r) ∙ ap (λ k. get_or sorts k sort.Word) (eqb-true (sort_number r) (sort_number s) e) ∙ at_number s
 
-left : (a b : Bool) → (a && b) ≡ true → a ≡ true
+pub left : (a b : Bool) → (a && b) ≡ true → a ≡ true
 left true b e = refl
 left false b e = absurd cc
 
-right : (a b : Bool) → (a && b) ≡ true → b ≡ true
+pub right : (a b : Bool) → (a && b) ≡ true → b ≡ true
 right true b e = e
 right false b e = absurd cc
 
@@ -320,7 +320,7 @@ found_sort (b ∷ bs) n s = pick (bytes_eq b.name n && has_sort b.value s) refl 
 abbrev HasValues : Env → TermTree → Type 0
 HasValues env t = (s : Sort) → sort_of t ≡ Some s → sort_of_value (value_under env t) ≡ Some s
 
-first_and_rest : (o : Option Sort) (os : List (Option Sort)) (ss : List Sort) → all_sorts (o ∷ os) ≡ Some ss → (r : Sort) × (rs : List Sort) × (o ≡ Some r) × (all_sorts os ≡ Some rs) × (r ∷ rs ≡ ss)
+pub first_and_rest : (o : Option Sort) (os : List (Option Sort)) (ss : List Sort) → all_sorts (o ∷ os) ≡ Some ss → (r : Sort) × (rs : List Sort) × (o ≡ Some r) × (all_sorts os ≡ Some rs) × (r ∷ rs ≡ ss)
 first_and_rest None os ss e = absurd cc
 first_and_rest (Some r) os ss e = with_rest (all_sorts os) refl e
   where
@@ -336,7 +336,7 @@ parts_sorts env (d ∷ es) ss e =
     ∙ ap (λ os. Some parts.0 ∷ os) (parts_sorts env es parts.1 parts.3)
     ∙ ap (map (λ s. Some s)) parts.4
 
-each_sorted : (o : Option (List Sort)) (f : List Sort → Option Sort) (r : Sort) → with_sorts o f ≡ Some r → (ss : List Sort) × (o ≡ Some ss) × (f ss ≡ Some r)
+pub each_sorted : (o : Option (List Sort)) (f : List Sort → Option Sort) (r : Sort) → with_sorts o f ≡ Some r → (ss : List Sort) × (o ≡ Some ss) × (f ss ≡ Some r)
 each_sorted None f r e = absurd cc
 each_sorted (Some ss) f r e = (ss, refl, e)
 

@@ -8,7 +8,7 @@ positive : (n : ℕ) → 0 < 256 ^ n
 positive zero = lit< tt
 positive (suc n) = omega (arith, positive n, pow-suc 256 n)
 
-number_below : (n : ℕ) (bs : List ℕ) → length bs ≤ n → ((k : ℕ) → get_or bs k 0 < 256) → number_of bs < 256 ^ n
+pub number_below : (n : ℕ) (bs : List ℕ) → length bs ≤ n → ((k : ℕ) → get_or bs k 0 < 256) → number_of bs < 256 ^ n
 number_below n [] le h = positive n
 number_below zero (b ∷ bs) le h = absurd (omega arith)
 number_below (suc n) (b ∷ bs) le h = omega (arith, h 0, number_below n bs (omega arith) (λ k. h (suc k)), pow-suc 256 n)

@@ -8,4 +8,5 @@ pub mod Store
 pub mod Places
 pub mod Typed
 pub mod Specification
+pub mod Ranges
 pub mod Laws

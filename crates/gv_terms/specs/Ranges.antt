@@ -1,0 +1,56 @@
+-- Which values a machine can have: numbers of their widths, and lists that are not too long.
+use Rattle.std.specs.Prelude.{ℕ, ◌<◌, ◌^◌, List, length, Bool, true, ◌&&◌, nat_lt}
+use Rattle.std.specs.List.{All, list_all}
+use Rattle.gv_terms.specs.declared.operator.Operator.{Operator}
+use Rattle.gv_terms.specs.declared.operator.Operator.TheVariants as op
+use Rattle.gv_terms.specs.declared.tree.TermTree.{TermTree, fold-TermTree}
+use Rattle.gv_terms.specs.declared.tree.TermTree.TheOpen.{TermTree-F, Variable, Apply}
+use Rattle.gv_terms.specs.declared.value.Value.{Value}
+use Rattle.gv_terms.specs.declared.value.Value.TheVariants as val
+use Rattle.gv_terms.specs.Words.{words}
+use Rattle.gv_terms.specs.Meaning.{too_long}
+
+-- how many references there are, and how many calls
+abbrev pub references : ℕ
+references = 2 ^ 32
+
+-- a list that is not too long, of such items
+abbrev pub IsList : {A : Type 0} → (A → Type 0) → List A → Type 0
+IsList P x = (length x < too_long) × All P x
+
+abbrev pub AreBytes : List ℕ → Type 0
+AreBytes x = IsList (λ b. b < 256) x
+
+-- a map from words to such values
+abbrev pub IsMap : {V : Type 0} → (V → Type 0) → List (ℕ × V) → Type 0
+IsMap P m = All (λ e. (e.0 < words) × P e.1) m
+
+-- a number fits its width, a list or a map holds what is in range; the value of no reply is in range too
+abbrev pub IsInRange : Value → Type 0
+IsInRange (val.Word n) = n < words
+IsInRange (val.Bool b) = Unit {0}
+IsInRange (val.Bytes x) = AreBytes x
+IsInRange (val.Words x) = IsList (λ n. n < words) x
+IsInRange (val.Refs x) = IsList (λ r. r < references) x
+IsInRange (val.Blocks x) = IsList AreBytes x
+IsInRange (val.MapWW m) = IsMap (λ n. n < words) m
+IsInRange (val.MapWB m) = IsMap AreBytes m
+IsInRange (val.Ref r) = r < references
+IsInRange (val.SliceS s) = (s.object < references) × (s.offset < words) × (s.length < words)
+IsInRange (val.Call c) = c < references
+IsInRange (val.Name n) = AreBytes n
+IsInRange val.Unit = Unit {0}
+
+-- whether an operator is no number, or one that is a word
+abbrev pub is_word_if_number : Operator → Bool
+is_word_if_number (op.Number n) = nat_lt n words
+is_word_if_number _ = true
+
+abbrev pub words_here : TermTree-F Bool → Bool
+words_here (Variable n s) = true
+words_here (Apply o parts) = is_word_if_number o && list_all (λ b. b) parts
+
+-- whether each number that stands in a tree is a word; how many copies a maker makes is no such number,
+-- and limited where the tree has a sort
+unfoldable pub numbers_are_words : TermTree → Bool
+numbers_are_words = fold-TermTree Bool words_here
