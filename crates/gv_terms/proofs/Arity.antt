@@ -38,7 +38,7 @@ via : (o : Option Sort) (f : Sort → Option Sort) (n : ℕ) (ss : List Sort) (r
 via None f n ss r h e = absurd cc
 via (Some s) f n ss r h e = h s e
 
-limited : (b : Bool) (o : Option Sort) (r : Sort) → cond b o None ≡ Some r → o ≡ Some r
+pub limited : (b : Bool) (o : Option Sort) (r : Sort) → cond b o None ≡ Some r → o ≡ Some r
 limited true o r e = e
 limited false o r e = absurd cc
 

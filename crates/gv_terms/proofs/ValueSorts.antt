@@ -24,6 +24,7 @@ use Rattle.gv_terms.specs.Meaning.{operate, part, length_of, item_at, with_item,
 use Rattle.gv_terms.specs.Trees.{sort_of, all_sorts, with_sorts, value_under}
 use Rattle.gv_terms.specs.Store.{tree_at, trees_of, AreSound}
 use Rattle.gv_terms.specs.Laws.{ValuesHaveSorts}
+use Rattle.gv_terms.proofs.Arity.{limited}
 use Rattle.gv_terms.proofs.NodeSorts.{sort_variable, sort_apply}
 use Rattle.gv_terms.proofs.Valued.{value_variable, value_apply}
 
@@ -74,10 +75,6 @@ taken wanted ss s r e = (passed (pointwise sort_eq wanted ss) s r e).1
 
 as_wanted : (wanted ss : List Sort) (s r : Sort) → takes wanted s ss ≡ Some r → pointwise sort_eq wanted ss ≡ true
 as_wanted wanted ss s r e = (passed (pointwise sort_eq wanted ss) s r e).0
-
-limited : (b : Bool) (o : Option Sort) (r : Sort) → cond b o None ≡ Some r → o ≡ Some r
-limited true o r e = e
-limited false o r e = absurd cc
 
 made : (k : ℕ) (wanted ss : List Sort) (s r : Sort) → with_copies k (takes wanted s ss) ≡ Some r → Some s ≡ Some r
 made k wanted ss s r e = taken wanted ss s r (limited (nat_le k 65536) (takes wanted s ss) r e)
