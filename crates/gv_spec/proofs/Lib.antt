@@ -7,3 +7,5 @@ pub mod SmallRuns
 pub mod RunLaws
 pub mod WalkLaws
 pub mod Assigned
+pub mod OneCall
+pub mod Atomic

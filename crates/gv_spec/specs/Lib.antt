@@ -1,3 +1,4 @@
+pub mod Atomic
 pub mod Entry
 pub mod Event
 pub mod Examples

@@ -1,5 +1,5 @@
 -- Laws of walks and explanations, over any specification.
-use Rattle.std.specs.Prelude.{◌≡◌, ◌≢◌, ◌↔◌, ℕ, List, ◌∷◌, ◌++◌, Ok}
+use Rattle.std.specs.Prelude.{◌≡◌, ◌≢◌, ◌↔◌, ℕ, List, [], ◌∷◌, ◌++◌, Ok}
 use Rattle.gv_spec.specs.Entry as entry
 use Rattle.gv_spec.specs.Move as move
 use Rattle.gv_spec.specs.Entry.{Entry}
@@ -19,6 +19,14 @@ pub record ActsWith {F V : Type 0} (atomic : Specification F V) (n : ℕ) (reply
   pub at : WalkState F V
   pub reached : walk_from atomic (first_walk atomic) (before ++ move.Other (entry.Call n op args) ∷ between) ≡ Ok at
   pub replied : (atomic.applied op args at.fields).1 ≡ reply
+
+-- some moves explain the history
+abbrev pub HasExplanation : {F V : Type 0} → Specification F V → List (Entry V) → Type 0
+HasExplanation {F} {V} atomic history = (moves : List (Move V)) × Explains atomic moves history
+
+-- the history of a boot and of one call that is answered
+abbrev pub one_call : {V : Type 0} → ℕ → List V → V → List (Entry V)
+one_call op args reply = entry.Boot ∷ entry.Call 1 op args ∷ entry.Answer 1 reply ∷ []
 
 module _ (F V : Type 0) where
   -- the walk beside a history has no fault exactly where the moves explain the history
@@ -46,3 +54,9 @@ module _ (F V : Type 0) where
   NoWrongReply = (atomic : Specification F V) (n op : ℕ) (args : List V) (reply : V) (front middle rest : List (Entry V))
       → ((fields : F) → reply ≢ (atomic.applied op args fields).1)
       → (moves : List (Move V)) → Explains atomic moves (front ++ entry.Call n op args ∷ (middle ++ entry.Answer n reply ∷ rest)) → ⊥
+
+  -- one call after a boot has an explanation exactly where it answers with its operation's reply on the
+  -- fields that the recovery left
+  abbrev pub OneCallReplies : Type 0
+  OneCallReplies = (atomic : Specification F V) (op : ℕ) (args : List V) (reply : V)
+      → HasExplanation atomic (one_call op args reply) ↔ (reply ≡ (atomic.applied op args (atomic.crashed atomic.first_fields)).1)

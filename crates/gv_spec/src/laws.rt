@@ -1,11 +1,13 @@
 //! Laws of the definitions in this crate. Each function does nothing: its contract is the law.
 
 ghost use Rattle.gv_spec.specs.RunLaws.{ChangesNothing, NoCallBeforeBoot, NoStepOfEnded, EndedStays, CrashHappens, CrashDrops, NoFail, UndefinedStays, DefinedThroughout};
-ghost use Rattle.gv_spec.specs.WalkLaws.{WalkTells, ActsOnce, AnsweredActs, NoActAfterBoot, NoWrongReply};
+ghost use Rattle.gv_spec.specs.WalkLaws.{WalkTells, ActsOnce, AnsweredActs, NoActAfterBoot, NoWrongReply, OneCallReplies};
+ghost use Rattle.gv_spec.specs.Atomic.{FirstCallReplies};
 ghost use Rattle.gv_spec.specs.Examples.{TwoCalls, CrashedCall, SumValues, WrongPackage, Refusals, StartedThreads, SecondFailure};
 ghost use Rattle.gv_spec.specs.Small.{AgreeOps, SmallRefines, SmallRefinesWithoutCrash, RefinesOnlySameReplies};
 
 use gv_base::Small;
+use gv_terms::Spec;
 
 /// A package of the small form refines a specification of the small form that has the same
 /// operations with the same Sums: in every run, and so in every run without a crash.
@@ -47,14 +49,22 @@ pub fn lasting<W, T, R, V>()
 
 /// What an explanation tells, for any specification: a call acts at most once; an answered call has
 /// acted since its start, with the reply that it answers; a call that a boot left behind acts no
-/// more; no history with another reply than its operation's has an explanation. And the walk
-/// beside a history meets no fault exactly where the moves explain it.
+/// more; no history with another reply than its operation's has an explanation, and one call after
+/// a boot has one with that reply. And the walk beside a history meets no fault exactly where the
+/// moves explain it.
 pub fn explanations<F, V>()
     ensures tells { WalkTells F V }
     ensures once { ActsOnce F V }
     ensures answered { AnsweredActs F V }
     ensures left_behind { NoActAfterBoot F V }
     ensures right_replies { NoWrongReply F V }
+    ensures one_call { OneCallReplies F V }
+{}
+
+/// What the meaning of a specification explains: one call after a boot, exactly where it answers
+/// with its operation's reply on the first fields after a crash.
+pub fn first_call(spec: &Spec)
+    ensures { FirstCallReplies spec.now }
 {}
 
 /// Worked runs, computed: two calls at the same time with their explanation, a call that a crash

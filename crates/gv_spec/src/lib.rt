@@ -8,6 +8,8 @@ mod meaning_rows;
 mod small_spec;
 
 pub use gv_terms::{Assign, Field, Op, Spec, State, Var};
-pub use laws::{explanations, impossible_events, lasting, small_refines, small_replies, worked};
+pub use laws::{
+    explanations, first_call, impossible_events, lasting, small_refines, small_replies, worked,
+};
 pub use meaning::{apply, crashed, init, meets_where};
 pub use small_spec::read_small_spec;

@@ -1,18 +1,22 @@
 //! What a specification means: its first fields, its operations, and its crash.
 
-ghost use Rattle.std.specs.Prelude.{◌≡◌, ◌<◌, ◌++◌, length, slice_get, slice_set, IfOk, IfSome, OnOk};
+ghost use Rattle.std.specs.Prelude.{◌≡◌, ◌<◌, ◌++◌, length, slice_get, slice_set, IfOk, IfSome, IsTrue, OnOk};
 ghost use Rattle.std.specs.List.{All};
 ghost use Rattle.gv_terms.specs.Specification.{assigned, fields_bound, args_bound, first_fields, crashed, reply_value};
 ghost use Rattle.gv_terms.specs.Specification.{IsOpWithin};
+ghost use Rattle.gv_terms.specs.Values.{sort_of_value};
+ghost use Rattle.gv_spec.specs.Atomic.{are_of, are_args, atomic_of, field_vars, reply_sort, EachOfOp, EachOfCrash};
 ghost use Rattle.gv_spec.specs.Meaning.{allows, fields_after, reply_of};
 
 use gv_base::{List, NoMemory};
 use gv_terms::{Assign, Binding, Env, Field, Op, Spec, State, Term, TermStore, Value, Var, eval};
 use std::alloc::Global;
 
-/// The first fields.
+/// The first fields, each of its field's sort.
 pub fn init(alloc: Global, spec: &Spec) -> Result<State, NoMemory>
-    ensures { IfOk result (λ s. s.values ≡ first_fields spec.now) }
+    ensures value { IfOk result (λ s. s.values ≡ first_fields spec.now) }
+    ensures atomic { IfOk result (λ s. s.values ≡ (atomic_of spec.now).first_fields) }
+    ensures sorts { IfOk result (λ s. IsTrue (are_of (field_vars spec.now) s.values)) }
 {
     let env = Env {
         bindings: List::new(alloc),
@@ -26,10 +30,11 @@ pub fn init(alloc: Global, spec: &Spec) -> Result<State, NoMemory>
     })
 }
 
-/// Whether an operation may be called with these arguments.
+/// Whether an operation may be called with these arguments, where they are of its parameters' sorts.
 pub fn meets_where(alloc: Global, spec: &Spec, op: u32, args: &[Value]) -> Result<bool, NoMemory>
     requires { op < length spec.now.ops }
-    ensures { IfOk result (λ b. b ≡ allows spec.now op args.now) }
+    ensures value { IfOk result (λ b. b ≡ allows spec.now op args.now) }
+    ensures atomic { IsTrue (are_args spec.now op args.now) → IfOk result (λ b. b ≡ (atomic_of spec.now).allows op args.now) }
 {
     let operation = operation(spec, op);
     let mut bindings = Vec::new(alloc);
@@ -41,7 +46,9 @@ pub fn meets_where(alloc: Global, spec: &Spec, op: u32, args: &[Value]) -> Resul
     Ok(value.truth())
 }
 
-/// The fields after an operation with these arguments, and its reply; `Unit` where it has none.
+/// The fields after an operation with these arguments, and its reply; `Unit` where it has none. Each
+/// field that it assigns has the value of its own assignment's term, which speaks of the old fields.
+/// Fields of their sorts stay so, and the reply has its term's sort.
 pub fn apply(
     alloc: Global,
     spec: &Spec,
@@ -52,6 +59,10 @@ pub fn apply(
     requires { op < length spec.now.ops }
     ensures fields { IfOk result (λ r. r.0.values ≡ fields_after spec.now op args.now s.now.values) }
     ensures reply { IfOk result (λ r. r.1 ≡ reply_of spec.now op args.now s.now.values) }
+    ensures atomic { IfOk result (λ r. (atomic_of spec.now).applied op args.now s.now.values ≡ (r.0.values, r.1)) }
+    ensures each { IfOk result (λ r. EachOfOp spec.now op args.now s.now.values r.0.values) }
+    ensures sorts { IsTrue (are_of (field_vars spec.now) s.now.values) → IfOk result (λ r. IsTrue (are_of (field_vars spec.now) r.0.values)) }
+    ensures reply_sort { IfOk result (λ r. sort_of_value r.1 ≡ reply_sort spec.now op) }
 {
     let operation = operation(spec, op);
     let mut bindings = Vec::new(alloc);
@@ -70,9 +81,13 @@ pub fn apply(
     Ok((after, reply))
 }
 
-/// The fields after a crash and the recovery from it.
+/// The fields after a crash and the recovery from it. Each field that the crash assigns has the value
+/// of its own assignment's term, which speaks of the old fields. Fields of their sorts stay so.
 pub fn crashed(alloc: Global, spec: &Spec, s: &State) -> Result<State, NoMemory>
-    ensures { IfOk result (λ r. r.values ≡ crashed spec.now s.now.values) }
+    ensures value { IfOk result (λ r. r.values ≡ crashed spec.now s.now.values) }
+    ensures atomic { IfOk result (λ r. r.values ≡ (atomic_of spec.now).crashed s.now.values) }
+    ensures each { IfOk result (λ r. EachOfCrash spec.now s.now.values r.values) }
+    ensures sorts { IsTrue (are_of (field_vars spec.now) s.now.values) → IfOk result (λ r. IsTrue (are_of (field_vars spec.now) r.values)) }
 {
     let mut bindings = Vec::new(alloc);
     bind_fields(

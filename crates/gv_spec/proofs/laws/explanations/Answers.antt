@@ -1,4 +1,5 @@
 use Rattle.gv_spec.proofs.WalkLaws.{walk_tells, acts_once, acted_when_answered, no_act_after_boot, no_wrong_reply}
+use Rattle.gv_spec.proofs.OneCall.{one_call_replies}
 use Rattle.gv_spec.proofs.laws.explanations.Goals as goal
 
 pub returns-clause-tells : goal.returns-clause-tells
@@ -15,3 +16,6 @@ returns-clause-left_behind g c = no_act_after_boot g.row.F.Denot g.row.V.Denot
 
 pub returns-clause-right_replies : goal.returns-clause-right_replies
 returns-clause-right_replies g c = no_wrong_reply g.row.F.Denot g.row.V.Denot
+
+pub returns-clause-one_call : goal.returns-clause-one_call
+returns-clause-one_call g c = one_call_replies g.row.F.Denot g.row.V.Denot

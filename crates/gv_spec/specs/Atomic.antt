@@ -1,0 +1,90 @@
+-- A specification as it was written, as an atomic specification, and what its assignments do.
+use Rattle.std.specs.Prelude.{◌≡◌, ◌↔◌, ℕ, ◌<◌, Bool, true, false, ◌&&◌, List, [], ◌∷◌, Option, Some, None, map, length, nat_eq, slice_get}
+use Rattle.std.specs.List.{find}
+use Rattle.gv_terms.specs.declared.sort.Sort.{Sort}
+use Rattle.gv_terms.specs.declared.tree.TermTree.{TermTree}
+use Rattle.gv_terms.specs.declared.term.Term.{Term}
+use Rattle.gv_terms.specs.declared.value.Value.{Value}
+use Rattle.gv_terms.specs.declared.value.Env.{Env}
+use Rattle.gv_terms.specs.declared.spec.Var.{Var}
+use Rattle.gv_terms.specs.declared.spec.Assign.{Assign}
+use Rattle.gv_terms.specs.declared.spec.Op.{Op}
+use Rattle.gv_terms.specs.declared.spec.Spec.{Spec}
+use Rattle.gv_terms.specs.Values.{has_sort, value_eq}
+use Rattle.gv_terms.specs.Trees.{sort_of}
+use Rattle.gv_terms.specs.Store.{tree_at}
+use Rattle.gv_terms.specs.Typed.{var_of}
+use Rattle.gv_terms.specs.Specification.{term_value, binds, fields_bound, op_env, first_fields, crashed}
+use Rattle.gv_terms.proofs.Equality.{value_eq_decides}
+use Rattle.gv_spec.specs.Meaning.{allows, fields_after, reply_of}
+use Rattle.gv_spec.specs.Specification.{Specification}
+use Rattle.gv_spec.specs.WalkLaws.{HasExplanation, one_call}
+
+-- as many values as variables, each of its variable's sort
+abbrev pub are_of : List Var → List Value → Bool
+are_of [] [] = true
+are_of (x ∷ vars) (v ∷ values) = has_sort v x.sort && are_of vars values
+are_of [] (v ∷ values) = false
+are_of (x ∷ vars) [] = false
+
+-- the fields as variables
+abbrev pub field_vars : Spec → List Var
+field_vars s = map var_of s.fields
+
+-- whether there is such an operation and these are arguments of its parameters' sorts
+abbrev pub are_args_of : Option Op → List Value → Bool
+are_args_of None args = false
+are_args_of (Some o) args = are_of o.params args
+
+abbrev pub are_args : Spec → ℕ → List Value → Bool
+are_args s op args = are_args_of (slice_get s.ops op) args
+
+-- the atomic specification that a written one means: an operation may be called with arguments of its
+-- parameters' sorts that meet its condition
+abbrev pub atomic_of : Spec → Specification (List Value) Value
+atomic_of s = record {
+  first_fields = first_fields s;
+  allows = λ op args. are_args s op args && allows s op args;
+  applied = λ op args fields. (fields_after s op args fields, reply_of s op args fields);
+  crashed = λ fields. crashed s fields;
+  same = value_eq;
+  decides = value_eq_decides;
+}
+
+-- the sort of the term that an operation replies; where it replies none there is no sort, and `Unit` alone
+-- is a value without one
+abbrev pub term_sort : List TermTree → Option Term → Option Sort
+term_sort ts None = None
+term_sort ts (Some t) = sort_of (tree_at ts t.id)
+
+abbrev pub reply_sort_of : Spec → Option Op → Option Sort
+reply_sort_of s None = None
+reply_sort_of s (Some o) = term_sort s.store o.reply
+
+abbrev pub reply_sort : Spec → ℕ → Option Sort
+reply_sort s op = reply_sort_of s (slice_get s.ops op)
+
+-- the value that an assignment gives, or the old one where there is none
+abbrev pub own_value : List TermTree → Env → Option Assign → Option Value → Option Value
+own_value ts env None old = old
+own_value ts env (Some a) old = Some (term_value ts env a.term)
+
+-- each field has the value of its own assignment under the one valuation, and a field without an
+-- assignment stays
+pub record EachItsOwn (ts : List TermTree) (env : Env) (body : List Assign) (old new : List Value) : Type 0 where
+  pub as_many : length new ≡ length old
+  pub each : (n : ℕ) → n < length old → slice_get new n ≡ own_value ts env (find (λ a. nat_eq a.field n) body) (slice_get old n)
+
+-- an operation's assignments all speak of the old fields and the arguments
+abbrev pub EachOfOp : Spec → ℕ → List Value → List Value → List Value → Type 0
+EachOfOp s op args old new = (o : Op) → slice_get s.ops op ≡ Some o → EachItsOwn s.store (op_env s o args old) o.body old new
+
+-- and those of a crash of the old fields
+abbrev pub EachOfCrash : Spec → List Value → List Value → Type 0
+EachOfCrash s old new = EachItsOwn s.store (binds (fields_bound s.fields old)) s.crash old new
+
+-- one call after a boot has an explanation exactly where it answers with its operation's reply on the first
+-- fields after a crash
+abbrev pub FirstCallReplies : Spec → Type 0
+FirstCallReplies s = (op : ℕ) (args : List Value) (reply : Value)
+    → HasExplanation (atomic_of s) (one_call op args reply) ↔ (reply ≡ reply_of s op args (crashed s (first_fields s)))
