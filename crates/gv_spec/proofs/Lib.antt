@@ -8,4 +8,5 @@ pub mod RunLaws
 pub mod WalkLaws
 pub mod Assigned
 pub mod OneCall
+pub mod WalkFields
 pub mod Atomic

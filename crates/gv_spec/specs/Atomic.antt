@@ -1,5 +1,5 @@
 -- A specification as it was written, as an atomic specification, and what its assignments do.
-use Rattle.std.specs.Prelude.{◌≡◌, ◌↔◌, ℕ, ◌<◌, Bool, true, false, ◌&&◌, List, [], ◌∷◌, Option, Some, None, map, length, nat_eq, slice_get}
+use Rattle.std.specs.Prelude.{◌≡◌, ◌↔◌, ℕ, ◌<◌, Bool, true, false, ◌&&◌, List, [], ◌∷◌, Option, Some, None, IsTrue, Ok, map, length, nat_eq, slice_get}
 use Rattle.std.specs.List.{find}
 use Rattle.gv_terms.specs.declared.sort.Sort.{Sort}
 use Rattle.gv_terms.specs.declared.tree.TermTree.{TermTree}
@@ -18,6 +18,8 @@ use Rattle.gv_terms.specs.Specification.{term_value, binds, fields_bound, op_env
 use Rattle.gv_terms.proofs.Equality.{value_eq_decides}
 use Rattle.gv_spec.specs.Meaning.{allows, fields_after, reply_of}
 use Rattle.gv_spec.specs.Specification.{Specification}
+use Rattle.gv_spec.specs.Move.{Move}
+use Rattle.gv_spec.specs.Walks.{WalkState, first_walk, walk_from}
 use Rattle.gv_spec.specs.WalkLaws.{HasExplanation, one_call}
 
 -- as many values as variables, each of its variable's sort
@@ -82,6 +84,11 @@ EachOfOp s op args old new = (o : Op) → slice_get s.ops op ≡ Some o → Each
 -- and those of a crash of the old fields
 abbrev pub EachOfCrash : Spec → List Value → List Value → Type 0
 EachOfCrash s old new = EachItsOwn s.store (binds (fields_bound s.fields old)) s.crash old new
+
+-- wherever a walk from the first fields ends, its fields are of their sorts
+abbrev pub WalksKeepSorts : Spec → Type 0
+WalksKeepSorts s = (moves : List (Move Value)) (end : WalkState (List Value) Value)
+    → walk_from (atomic_of s) (first_walk (atomic_of s)) moves ≡ Ok end → IsTrue (are_of (field_vars s) end.fields)
 
 -- one call after a boot has an explanation exactly where it answers with its operation's reply on the first
 -- fields after a crash

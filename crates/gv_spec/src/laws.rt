@@ -2,7 +2,7 @@
 
 ghost use Rattle.gv_spec.specs.RunLaws.{ChangesNothing, NoCallBeforeBoot, NoStepOfEnded, EndedStays, CrashHappens, CrashDrops, NoFail, UndefinedStays, DefinedThroughout};
 ghost use Rattle.gv_spec.specs.WalkLaws.{WalkTells, ActsOnce, AnsweredActs, NoActAfterBoot, NoWrongReply, OneCallReplies};
-ghost use Rattle.gv_spec.specs.Atomic.{FirstCallReplies};
+ghost use Rattle.gv_spec.specs.Atomic.{WalksKeepSorts, FirstCallReplies};
 ghost use Rattle.gv_spec.specs.Examples.{TwoCalls, CrashedCall, SumValues, WrongPackage, Refusals, StartedThreads, SecondFailure};
 ghost use Rattle.gv_spec.specs.Small.{AgreeOps, SmallRefines, SmallRefinesWithoutCrash, RefinesOnlySameReplies};
 
@@ -61,10 +61,12 @@ pub fn explanations<F, V>()
     ensures one_call { OneCallReplies F V }
 {}
 
-/// What the meaning of a specification explains: one call after a boot, exactly where it answers
-/// with its operation's reply on the first fields after a crash.
-pub fn first_call(spec: &Spec)
-    ensures { FirstCallReplies spec.now }
+/// What holds of walks over a specification that is made of terms: the fields stay of their sorts,
+/// and one call after a boot has an explanation exactly where it answers with its operation's reply
+/// on the first fields after a crash.
+pub fn written_walks(spec: &Spec)
+    ensures sorts { WalksKeepSorts spec.now }
+    ensures one_call { FirstCallReplies spec.now }
 {}
 
 /// Worked runs, computed: two calls at the same time with their explanation, a call that a crash

@@ -9,7 +9,7 @@ mod small_spec;
 
 pub use gv_terms::{Assign, Field, Op, Spec, State, Var};
 pub use laws::{
-    explanations, first_call, impossible_events, lasting, small_refines, small_replies, worked,
+    explanations, impossible_events, lasting, small_refines, small_replies, worked, written_walks,
 };
 pub use meaning::{apply, crashed, init, meets_where};
 pub use small_spec::read_small_spec;
