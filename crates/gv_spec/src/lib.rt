@@ -11,5 +11,5 @@ pub use gv_terms::{Assign, Field, Op, Spec, State, Var};
 pub use laws::{
     explanations, impossible_events, lasting, small_refines, small_replies, worked, written_walks,
 };
-pub use meaning::{apply, crashed, init, meets_where};
+pub use meaning::{apply, crashed, init, meets_where, takes};
 pub use small_spec::read_small_spec;

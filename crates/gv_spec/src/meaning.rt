@@ -30,6 +30,16 @@ pub fn init(alloc: Global, spec: &Spec) -> Result<State, NoMemory>
     })
 }
 
+/// Whether there is such an operation and these are arguments of its parameters' sorts.
+pub fn takes(spec: &Spec, op: u32, args: &[Value]) -> bool
+    ensures { result ≡ are_args spec.now op args.now }
+{
+    match spec.ops.as_slice().get(op as usize) {
+        None => false,
+        Some(operation) => are_of(operation.params.as_slice(), args),
+    }
+}
+
 /// Whether an operation may be called with these arguments, where they are of its parameters' sorts.
 pub fn meets_where(alloc: Global, spec: &Spec, op: u32, args: &[Value]) -> Result<bool, NoMemory>
     requires { op < length spec.now.ops }
@@ -100,6 +110,25 @@ pub fn crashed(alloc: Global, spec: &Spec, s: &State) -> Result<State, NoMemory>
         bindings: List::from_vec(bindings),
     };
     assign(alloc, &spec.store, spec.crash.as_slice(), &env, s)
+}
+
+// Whether there are as many values as variables, each of its variable's sort.
+fn are_of(vars: &[Var], values: &[Value]) -> bool
+    ensures { result ≡ are_of vars.now values.now }
+{
+    let mut vars = vars;
+    let mut values = values;
+    while let [var, others @ ..] = vars {
+        let [value, rest @ ..] = values else {
+            return false;
+        };
+        if !value.has_sort(var.sort) {
+            return false;
+        }
+        vars = others;
+        values = rest;
+    }
+    values.is_empty()
 }
 
 // The value of a reply, or `Unit` where there is none.
