@@ -48,7 +48,7 @@ atomic_of s = record {
   first_fields = first_fields s;
   allows = λ op args. are_args s op args && allows s op args;
   applied = λ op args fields. (fields_after s op args fields, reply_of s op args fields);
-  crashed = λ fields. crashed s fields;
+  crashed = crashed s;
   same = value_eq;
   decides = value_eq_decides;
 }
