@@ -1,5 +1,7 @@
 //! Whole runs over files and a sink in memory.
 
+mod small_forms;
+
 use crate::run;
 use gv_base::{Held, List, MemFiles, MemSink, Name, SureFiles, SureSink};
 use std::alloc::Global;
