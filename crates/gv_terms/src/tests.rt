@@ -1,11 +1,12 @@
 //! Tables of terms with values worked out by hand.
 
-ghost use Rattle.std.specs.Prelude.{IfOk};
-ghost use Rattle.gv_terms.specs.Store.{AreIn};
+ghost use Rattle.std.specs.Prelude.{◌<◌, length, IfOk};
+ghost use Rattle.gv_terms.specs.Store.{AreIn, Grows};
 
 mod large_lists;
 mod list_rows;
 mod map_rows;
+mod rows;
 mod sort_rows;
 mod word_rows;
 
@@ -26,6 +27,27 @@ fn letter(alloc: Global, number: usize) -> Result<Name, NoMemory> {
     Name::from_slice(alloc, &[b'a' + (number % 26) as u8])
 }
 
+// The variable with a number.
+fn variable(
+    alloc: Global,
+    store: &mut TermStore,
+    number: usize,
+    sort: Sort,
+) -> Result<Term, MakeFault>
+    ensures within { IfOk result (λ t. t.id < length store.new) }
+    ensures grows { Grows store.old store.new }
+{
+    let head = Head::Variable {
+        name: letter(alloc, number)?,
+        sort,
+    };
+    let node = Node {
+        head,
+        parts: List::new(alloc),
+    };
+    store.make(alloc, &node)
+}
+
 // Variables of these sorts.
 #[tactic(auto, using(crate::proofs::Grown::one_more_in))]
 fn variables(alloc: Global, store: &mut TermStore, sorts: &[Sort]) -> Result<Vec<Term>, MakeFault>
@@ -33,15 +55,8 @@ fn variables(alloc: Global, store: &mut TermStore, sorts: &[Sort]) -> Result<Vec
 {
     let mut terms = Vec::new(alloc);
     for (i, sort) in sorts.iter().enumerate() {
-        let head = Head::Variable {
-            name: letter(alloc, i)?,
-            sort: *sort,
-        };
-        let node = Node {
-            head,
-            parts: List::new(alloc),
-        };
-        terms.push(store.make(alloc, &node)?)?;
+        let variable = variable(alloc, store, i, *sort)?;
+        terms.push(variable)?;
     }
     Ok(terms)
 }

@@ -1,299 +1,364 @@
 //! Lists: byte strings, words, references and blocks.
 
-use super::{blocks, bytes, check, refs, words};
+use super::rows::Written::{Blocks, Bool, Bytes, Ref, Refs, Word, Words};
+use super::rows::{Row, check_rows};
 use crate::operator::Operator;
 use crate::term::MakeFault;
-use crate::value::Value;
+
+static BYTE_ITEMS: [Row; 13] = [
+    (Operator::At, &[Bytes(b"abc"), Word(0)], Word(97)),
+    (Operator::At, &[Bytes(b"abc"), Word(1)], Word(98)),
+    (Operator::At, &[Bytes(b"abc"), Word(2)], Word(99)),
+    (Operator::At, &[Bytes(b"abc"), Word(3)], Word(0)),
+    (Operator::At, &[Bytes(b"abc"), Word(u64::MAX)], Word(0)),
+    (Operator::At, &[Bytes(b""), Word(0)], Word(0)),
+    (
+        Operator::Upd,
+        &[Bytes(b"abc"), Word(0), Word(65)],
+        Bytes(b"Abc"),
+    ),
+    (
+        Operator::Upd,
+        &[Bytes(b"abc"), Word(2), Word(65)],
+        Bytes(b"abA"),
+    ),
+    (
+        Operator::Upd,
+        &[Bytes(b"abc"), Word(3), Word(65)],
+        Bytes(b"abc"),
+    ),
+    (
+        Operator::Upd,
+        &[Bytes(b"abc"), Word(u64::MAX), Word(65)],
+        Bytes(b"abc"),
+    ),
+    (
+        Operator::Upd,
+        &[Bytes(b"abc"), Word(1), Word(256)],
+        Bytes(b"a\x00c"),
+    ),
+    (
+        Operator::Upd,
+        &[Bytes(b"abc"), Word(1), Word(257)],
+        Bytes(b"a\x01c"),
+    ),
+    (Operator::Upd, &[Bytes(b""), Word(0), Word(65)], Bytes(b"")),
+];
 
 #[test]
 fn items_of_bytes(rt: HostRuntime) -> Result<(), MakeFault> {
-    let alloc = rt.alloc();
-    for (x, i, want) in [
-        (b"abc".as_slice(), 0, 97),
-        (b"abc".as_slice(), 1, 98),
-        (b"abc".as_slice(), 2, 99),
-        (b"abc".as_slice(), 3, 0),
-        (b"abc".as_slice(), u64::MAX, 0),
-        (b"".as_slice(), 0, 0),
-    ] {
-        let args = vec![in alloc; bytes(alloc, x)?, Value::Word(i)]?;
-        check(&rt, alloc, Operator::At, args, Value::Word(want))?;
-    }
-    for (x, i, v, want) in [
-        (b"abc".as_slice(), 0, 65, b"Abc".as_slice()),
-        (b"abc".as_slice(), 2, 65, b"abA".as_slice()),
-        (b"abc".as_slice(), 3, 65, b"abc".as_slice()),
-        (b"abc".as_slice(), u64::MAX, 65, b"abc".as_slice()),
-        (b"abc".as_slice(), 1, 256, b"a\x00c".as_slice()),
-        (b"abc".as_slice(), 1, 257, b"a\x01c".as_slice()),
-        (b"".as_slice(), 0, 65, b"".as_slice()),
-    ] {
-        let args = vec![in alloc; bytes(alloc, x)?, Value::Word(i), Value::Word(v)]?;
-        check(&rt, alloc, Operator::Upd, args, bytes(alloc, want)?)?;
-    }
-    Ok(())
+    check_rows(&rt, rt.alloc(), &BYTE_ITEMS)
 }
+
+static BYTE_PARTS: [Row; 16] = [
+    (
+        Operator::Sub,
+        &[Bytes(b"abc"), Word(0), Word(0)],
+        Bytes(b""),
+    ),
+    (
+        Operator::Sub,
+        &[Bytes(b"abc"), Word(0), Word(1)],
+        Bytes(b"a"),
+    ),
+    (
+        Operator::Sub,
+        &[Bytes(b"abc"), Word(0), Word(3)],
+        Bytes(b"abc"),
+    ),
+    (
+        Operator::Sub,
+        &[Bytes(b"abc"), Word(0), Word(4)],
+        Bytes(b"abc"),
+    ),
+    (
+        Operator::Sub,
+        &[Bytes(b"abc"), Word(0), Word(u64::MAX)],
+        Bytes(b"abc"),
+    ),
+    (
+        Operator::Sub,
+        &[Bytes(b"abc"), Word(1), Word(2)],
+        Bytes(b"b"),
+    ),
+    (
+        Operator::Sub,
+        &[Bytes(b"abc"), Word(1), Word(u64::MAX)],
+        Bytes(b"bc"),
+    ),
+    (
+        Operator::Sub,
+        &[Bytes(b"abc"), Word(2), Word(1)],
+        Bytes(b""),
+    ),
+    (
+        Operator::Sub,
+        &[Bytes(b"abc"), Word(3), Word(3)],
+        Bytes(b""),
+    ),
+    (
+        Operator::Sub,
+        &[Bytes(b"abc"), Word(3), Word(9)],
+        Bytes(b""),
+    ),
+    (
+        Operator::Sub,
+        &[Bytes(b"abc"), Word(4), Word(9)],
+        Bytes(b""),
+    ),
+    (
+        Operator::Sub,
+        &[Bytes(b"abc"), Word(u64::MAX), Word(u64::MAX)],
+        Bytes(b""),
+    ),
+    (Operator::Cat, &[Bytes(b""), Bytes(b"")], Bytes(b"")),
+    (Operator::Cat, &[Bytes(b"a"), Bytes(b"")], Bytes(b"a")),
+    (Operator::Cat, &[Bytes(b""), Bytes(b"b")], Bytes(b"b")),
+    (Operator::Cat, &[Bytes(b"ab"), Bytes(b"cd")], Bytes(b"abcd")),
+];
 
 #[test]
 fn parts_of_bytes(rt: HostRuntime) -> Result<(), MakeFault> {
-    let alloc = rt.alloc();
-    for (a, b, want) in [
-        (0, 0, b"".as_slice()),
-        (0, 1, b"a".as_slice()),
-        (0, 3, b"abc".as_slice()),
-        (0, 4, b"abc".as_slice()),
-        (0, u64::MAX, b"abc".as_slice()),
-        (1, 2, b"b".as_slice()),
-        (1, u64::MAX, b"bc".as_slice()),
-        (2, 1, b"".as_slice()),
-        (3, 3, b"".as_slice()),
-        (3, 9, b"".as_slice()),
-        (4, 9, b"".as_slice()),
-        (u64::MAX, u64::MAX, b"".as_slice()),
-    ] {
-        let args = vec![in alloc; bytes(alloc, b"abc")?, Value::Word(a), Value::Word(b)]?;
-        check(&rt, alloc, Operator::Sub, args, bytes(alloc, want)?)?;
-    }
-    for (x, y, want) in [
-        (b"".as_slice(), b"".as_slice(), b"".as_slice()),
-        (b"a".as_slice(), b"".as_slice(), b"a".as_slice()),
-        (b"".as_slice(), b"b".as_slice(), b"b".as_slice()),
-        (b"ab".as_slice(), b"cd".as_slice(), b"abcd".as_slice()),
-    ] {
-        let args = vec![in alloc; bytes(alloc, x)?, bytes(alloc, y)?]?;
-        check(&rt, alloc, Operator::Cat, args, bytes(alloc, want)?)?;
-    }
-    Ok(())
+    check_rows(&rt, rt.alloc(), &BYTE_PARTS)
 }
+
+static BYTE_TESTS: [Row; 16] = [
+    (Operator::Len, &[Bytes(b"")], Word(0)),
+    (Operator::IsZero, &[Bytes(b"")], Bool(true)),
+    (Operator::Len, &[Bytes(b"\x00")], Word(1)),
+    (Operator::IsZero, &[Bytes(b"\x00")], Bool(true)),
+    (Operator::Len, &[Bytes(b"\x00\x00")], Word(2)),
+    (Operator::IsZero, &[Bytes(b"\x00\x00")], Bool(true)),
+    (Operator::Len, &[Bytes(b"\x01")], Word(1)),
+    (Operator::IsZero, &[Bytes(b"\x01")], Bool(false)),
+    (Operator::Len, &[Bytes(b"\x00\x01")], Word(2)),
+    (Operator::IsZero, &[Bytes(b"\x00\x01")], Bool(false)),
+    (Operator::Len, &[Bytes(b"\x01\x00")], Word(2)),
+    (Operator::IsZero, &[Bytes(b"\x01\x00")], Bool(false)),
+    (Operator::Equal, &[Bytes(b""), Bytes(b"")], Bool(true)),
+    (Operator::Equal, &[Bytes(b"a"), Bytes(b"a")], Bool(true)),
+    (Operator::Equal, &[Bytes(b"a"), Bytes(b"b")], Bool(false)),
+    (Operator::Equal, &[Bytes(b"a"), Bytes(b"ab")], Bool(false)),
+];
 
 #[test]
 fn tests_of_bytes(rt: HostRuntime) -> Result<(), MakeFault> {
-    let alloc = rt.alloc();
-    for (x, length, zero) in [
-        (b"".as_slice(), 0, true),
-        (b"\x00".as_slice(), 1, true),
-        (b"\x00\x00".as_slice(), 2, true),
-        (b"\x01".as_slice(), 1, false),
-        (b"\x00\x01".as_slice(), 2, false),
-        (b"\x01\x00".as_slice(), 2, false),
-    ] {
-        let args = vec![in alloc; bytes(alloc, x)?]?;
-        check(&rt, alloc, Operator::Len, args, Value::Word(length))?;
-        let args = vec![in alloc; bytes(alloc, x)?]?;
-        check(&rt, alloc, Operator::IsZero, args, Value::Bool(zero))?;
-    }
-    for (x, y, want) in [
-        (b"".as_slice(), b"".as_slice(), true),
-        (b"a".as_slice(), b"a".as_slice(), true),
-        (b"a".as_slice(), b"b".as_slice(), false),
-        (b"a".as_slice(), b"ab".as_slice(), false),
-    ] {
-        let args = vec![in alloc; bytes(alloc, x)?, bytes(alloc, y)?]?;
-        check(&rt, alloc, Operator::Equal, args, Value::Bool(want))?;
-    }
-    Ok(())
+    check_rows(&rt, rt.alloc(), &BYTE_TESTS)
 }
+
+static EIGHT_BYTES: [Row; 13] = [
+    (Operator::Un64, &[Bytes(b"")], Word(0)),
+    (Operator::Un64, &[Bytes(b"\x01")], Word(1)),
+    (Operator::Un64, &[Bytes(b"\x01\x02")], Word(513)),
+    (
+        Operator::Un64,
+        &[Bytes(b"\x00\x00\x00\x00\x00\x00\x01")],
+        Word(1 << 48),
+    ),
+    (
+        Operator::Un64,
+        &[Bytes(b"\x01\x00\x00\x00\x00\x00\x00\x00\x09")],
+        Word(1),
+    ),
+    (Operator::Put64, &[Bytes(b""), Word(258)], Bytes(b"")),
+    (
+        Operator::Put64,
+        &[Bytes(b"1234567"), Word(258)],
+        Bytes(b"1234567"),
+    ),
+    (
+        Operator::Put64,
+        &[Bytes(b"12345678"), Word(258)],
+        Bytes(b"\x02\x01\x00\x00\x00\x00\x00\x00"),
+    ),
+    (
+        Operator::Put64,
+        &[Bytes(b"123456789"), Word(258)],
+        Bytes(b"\x02\x01\x00\x00\x00\x00\x00\x009"),
+    ),
+    (Operator::Bytes(0), &[Word(7)], Bytes(b"")),
+    (Operator::Bytes(1), &[Word(255)], Bytes(b"\xff")),
+    (Operator::Bytes(2), &[Word(256)], Bytes(b"\x00\x00")),
+    (Operator::Bytes(3), &[Word(257)], Bytes(b"\x01\x01\x01")),
+];
 
 #[test]
 fn eight_bytes(rt: HostRuntime) -> Result<(), MakeFault> {
-    let alloc = rt.alloc();
-    for (x, want) in [
-        (b"".as_slice(), 0),
-        (b"\x01".as_slice(), 1),
-        (b"\x01\x02".as_slice(), 513),
-        (b"\x00\x00\x00\x00\x00\x00\x01".as_slice(), 1 << 48),
-        (b"\x01\x00\x00\x00\x00\x00\x00\x00\x09".as_slice(), 1),
-    ] {
-        let args = vec![in alloc; bytes(alloc, x)?]?;
-        check(&rt, alloc, Operator::Un64, args, Value::Word(want))?;
-    }
-    for (x, want) in [
-        (b"".as_slice(), b"".as_slice()),
-        (b"1234567".as_slice(), b"1234567".as_slice()),
-        (
-            b"12345678".as_slice(),
-            b"\x02\x01\x00\x00\x00\x00\x00\x00".as_slice(),
-        ),
-        (
-            b"123456789".as_slice(),
-            b"\x02\x01\x00\x00\x00\x00\x00\x009".as_slice(),
-        ),
-    ] {
-        let args = vec![in alloc; bytes(alloc, x)?, Value::Word(258)]?;
-        check(&rt, alloc, Operator::Put64, args, bytes(alloc, want)?)?;
-    }
-    for (k, v, want) in [
-        (0, 7, b"".as_slice()),
-        (1, 255, b"\xff".as_slice()),
-        (2, 256, b"\x00\x00".as_slice()),
-        (3, 257, b"\x01\x01\x01".as_slice()),
-    ] {
-        let args = vec![in alloc; Value::Word(v)]?;
-        check(&rt, alloc, Operator::Bytes(k), args, bytes(alloc, want)?)?;
-    }
-    Ok(())
+    check_rows(&rt, rt.alloc(), &EIGHT_BYTES)
 }
+
+static WORD_LISTS: [Row; 21] = [
+    (Operator::At, &[Words(&[5, u64::MAX]), Word(0)], Word(5)),
+    (
+        Operator::At,
+        &[Words(&[5, u64::MAX]), Word(1)],
+        Word(u64::MAX),
+    ),
+    (Operator::At, &[Words(&[5, u64::MAX]), Word(2)], Word(0)),
+    (
+        Operator::At,
+        &[Words(&[5, u64::MAX]), Word(u64::MAX)],
+        Word(0),
+    ),
+    (
+        Operator::Upd,
+        &[Words(&[5, 6]), Word(0), Word(300)],
+        Words(&[300, 6]),
+    ),
+    (
+        Operator::Upd,
+        &[Words(&[5, 6]), Word(1), Word(300)],
+        Words(&[5, 300]),
+    ),
+    (
+        Operator::Upd,
+        &[Words(&[5, 6]), Word(2), Word(300)],
+        Words(&[5, 6]),
+    ),
+    (
+        Operator::Sub,
+        &[Words(&[5, 6]), Word(0), Word(9)],
+        Words(&[5, 6]),
+    ),
+    (
+        Operator::Sub,
+        &[Words(&[5, 6]), Word(1), Word(2)],
+        Words(&[6]),
+    ),
+    (
+        Operator::Sub,
+        &[Words(&[5, 6]), Word(2), Word(2)],
+        Words(&[]),
+    ),
+    (Operator::Len, &[Words(&[])], Word(0)),
+    (Operator::IsZero, &[Words(&[])], Bool(true)),
+    (Operator::Equal, &[Words(&[]), Words(&[0, 0])], Bool(false)),
+    (Operator::Len, &[Words(&[0, 0])], Word(2)),
+    (Operator::IsZero, &[Words(&[0, 0])], Bool(true)),
+    (
+        Operator::Equal,
+        &[Words(&[0, 0]), Words(&[0, 0])],
+        Bool(true),
+    ),
+    (Operator::Len, &[Words(&[0, 1])], Word(2)),
+    (Operator::IsZero, &[Words(&[0, 1])], Bool(false)),
+    (
+        Operator::Equal,
+        &[Words(&[0, 1]), Words(&[0, 0])],
+        Bool(false),
+    ),
+    (
+        Operator::Cat,
+        &[Words(&[1]), Words(&[2, 3])],
+        Words(&[1, 2, 3]),
+    ),
+    (Operator::Words(2), &[Word(300)], Words(&[300, 300])),
+];
 
 #[test]
 fn lists_of_words(rt: HostRuntime) -> Result<(), MakeFault> {
-    let alloc = rt.alloc();
-    let most = u64::MAX;
-    for (i, want) in [(0, 5), (1, most), (2, 0), (most, 0)] {
-        let args = vec![in alloc; words(alloc, &[5, most])?, Value::Word(i)]?;
-        check(&rt, alloc, Operator::At, args, Value::Word(want))?;
-    }
-    for (i, want) in [
-        (0, [300, 6].as_slice()),
-        (1, [5, 300].as_slice()),
-        (2, [5, 6].as_slice()),
-    ] {
-        let args = vec![in alloc; words(alloc, &[5, 6])?, Value::Word(i), Value::Word(300)]?;
-        check(&rt, alloc, Operator::Upd, args, words(alloc, want)?)?;
-    }
-    for (a, b, want) in [
-        (0, 9, [5, 6].as_slice()),
-        (1, 2, [6].as_slice()),
-        (2, 2, [].as_slice()),
-    ] {
-        let args = vec![in alloc; words(alloc, &[5, 6])?, Value::Word(a), Value::Word(b)]?;
-        check(&rt, alloc, Operator::Sub, args, words(alloc, want)?)?;
-    }
-    for (x, length, zero) in [
-        ([].as_slice(), 0, true),
-        ([0, 0].as_slice(), 2, true),
-        ([0, 1].as_slice(), 2, false),
-    ] {
-        let args = vec![in alloc; words(alloc, x)?]?;
-        check(&rt, alloc, Operator::Len, args, Value::Word(length))?;
-        let args = vec![in alloc; words(alloc, x)?]?;
-        check(&rt, alloc, Operator::IsZero, args, Value::Bool(zero))?;
-        let args = vec![in alloc; words(alloc, x)?, words(alloc, &[0, 0])?]?;
-        check(
-            &rt,
-            alloc,
-            Operator::Equal,
-            args,
-            Value::Bool(length == 2 && zero),
-        )?;
-    }
-    let args = vec![in alloc; words(alloc, &[1])?, words(alloc, &[2, 3])?]?;
-    check(&rt, alloc, Operator::Cat, args, words(alloc, &[1, 2, 3])?)?;
-    let args = vec![in alloc; Value::Word(300)]?;
-    check(
-        &rt,
-        alloc,
-        Operator::Words(2),
-        args,
-        words(alloc, &[300, 300])?,
-    )
+    check_rows(&rt, rt.alloc(), &WORD_LISTS)
 }
+
+static REFERENCE_LISTS: [Row; 17] = [
+    (Operator::At, &[Refs(&[5, 6]), Word(0)], Ref(5)),
+    (Operator::At, &[Refs(&[5, 6]), Word(1)], Ref(6)),
+    (Operator::At, &[Refs(&[5, 6]), Word(2)], Ref(0)),
+    (
+        Operator::Upd,
+        &[Refs(&[5, 6]), Word(1), Ref(9)],
+        Refs(&[5, 9]),
+    ),
+    (
+        Operator::Upd,
+        &[Refs(&[5, 6]), Word(2), Ref(9)],
+        Refs(&[5, 6]),
+    ),
+    (Operator::Len, &[Refs(&[])], Word(0)),
+    (Operator::IsZero, &[Refs(&[])], Bool(true)),
+    (Operator::Equal, &[Refs(&[]), Refs(&[7])], Bool(false)),
+    (Operator::Len, &[Refs(&[0])], Word(1)),
+    (Operator::IsZero, &[Refs(&[0])], Bool(true)),
+    (Operator::Equal, &[Refs(&[0]), Refs(&[7])], Bool(false)),
+    (Operator::Len, &[Refs(&[7])], Word(1)),
+    (Operator::IsZero, &[Refs(&[7])], Bool(false)),
+    (Operator::Equal, &[Refs(&[7]), Refs(&[7])], Bool(true)),
+    (
+        Operator::Sub,
+        &[Refs(&[5, 6, 7]), Word(1), Word(9)],
+        Refs(&[6, 7]),
+    ),
+    (Operator::Cat, &[Refs(&[1]), Refs(&[2])], Refs(&[1, 2])),
+    (Operator::Refs(3), &[Ref(4)], Refs(&[4, 4, 4])),
+];
 
 #[test]
 fn lists_of_references(rt: HostRuntime) -> Result<(), MakeFault> {
-    let alloc = rt.alloc();
-    for (i, want) in [(0, 5), (1, 6), (2, 0)] {
-        let args = vec![in alloc; refs(alloc, &[5, 6])?, Value::Word(i)]?;
-        check(&rt, alloc, Operator::At, args, Value::Ref(want))?;
-    }
-    for (i, want) in [(1, [5, 9].as_slice()), (2, [5, 6].as_slice())] {
-        let args = vec![in alloc; refs(alloc, &[5, 6])?, Value::Word(i), Value::Ref(9)]?;
-        check(&rt, alloc, Operator::Upd, args, refs(alloc, want)?)?;
-    }
-    for (x, length, zero) in [
-        ([].as_slice(), 0, true),
-        ([0].as_slice(), 1, true),
-        ([7].as_slice(), 1, false),
-    ] {
-        let args = vec![in alloc; refs(alloc, x)?]?;
-        check(&rt, alloc, Operator::Len, args, Value::Word(length))?;
-        let args = vec![in alloc; refs(alloc, x)?]?;
-        check(&rt, alloc, Operator::IsZero, args, Value::Bool(zero))?;
-        let args = vec![in alloc; refs(alloc, x)?, refs(alloc, &[7])?]?;
-        check(&rt, alloc, Operator::Equal, args, Value::Bool(!zero))?;
-    }
-    let args = vec![in alloc; refs(alloc, &[5, 6, 7])?, Value::Word(1), Value::Word(9)]?;
-    check(&rt, alloc, Operator::Sub, args, refs(alloc, &[6, 7])?)?;
-    let args = vec![in alloc; refs(alloc, &[1])?, refs(alloc, &[2])?]?;
-    check(&rt, alloc, Operator::Cat, args, refs(alloc, &[1, 2])?)?;
-    let args = vec![in alloc; Value::Ref(4)]?;
-    check(
-        &rt,
-        alloc,
-        Operator::Refs(3),
-        args,
-        refs(alloc, &[4, 4, 4])?,
-    )
+    check_rows(&rt, rt.alloc(), &REFERENCE_LISTS)
 }
+
+static BLOCK_LISTS: [Row; 18] = [
+    (
+        Operator::At,
+        &[Blocks(&[b"a", b"bc"]), Word(0)],
+        Bytes(b"a"),
+    ),
+    (
+        Operator::At,
+        &[Blocks(&[b"a", b"bc"]), Word(1)],
+        Bytes(b"bc"),
+    ),
+    (Operator::At, &[Blocks(&[b"a", b"bc"]), Word(2)], Bytes(b"")),
+    (
+        Operator::Upd,
+        &[Blocks(&[b"a", b"bc"]), Word(0), Bytes(b"")],
+        Blocks(&[b"", b"bc"]),
+    ),
+    (
+        Operator::Upd,
+        &[Blocks(&[b"a", b"bc"]), Word(2), Bytes(b"z")],
+        Blocks(&[b"a", b"bc"]),
+    ),
+    (
+        Operator::Sub,
+        &[Blocks(&[b"a", b"bc"]), Word(1), Word(5)],
+        Blocks(&[b"bc"]),
+    ),
+    (
+        Operator::Cat,
+        &[Blocks(&[b"a"]), Blocks(&[b"", b"b"])],
+        Blocks(&[b"a", b"", b"b"]),
+    ),
+    (Operator::Len, &[Blocks(&[])], Word(0)),
+    (Operator::IsZero, &[Blocks(&[])], Bool(true)),
+    (
+        Operator::Equal,
+        &[Blocks(&[]), Blocks(&[b"\x00"])],
+        Bool(false),
+    ),
+    (Operator::Len, &[Blocks(&[b"", b""])], Word(2)),
+    (Operator::IsZero, &[Blocks(&[b"", b""])], Bool(true)),
+    (
+        Operator::Equal,
+        &[Blocks(&[b"", b""]), Blocks(&[b"\x00"])],
+        Bool(false),
+    ),
+    (Operator::Len, &[Blocks(&[b"\x00"])], Word(1)),
+    (Operator::IsZero, &[Blocks(&[b"\x00"])], Bool(false)),
+    (
+        Operator::Equal,
+        &[Blocks(&[b"\x00"]), Blocks(&[b"\x00"])],
+        Bool(true),
+    ),
+    (
+        Operator::Blocks(2),
+        &[Bytes(b"xy")],
+        Blocks(&[b"xy", b"xy"]),
+    ),
+    (Operator::Blocks(0), &[Bytes(b"xy")], Blocks(&[])),
+];
 
 #[test]
 fn lists_of_blocks(rt: HostRuntime) -> Result<(), MakeFault> {
-    let alloc = rt.alloc();
-    for (i, want) in [
-        (0, b"a".as_slice()),
-        (1, b"bc".as_slice()),
-        (2, b"".as_slice()),
-    ] {
-        let args = vec![in alloc; blocks(alloc, &[b"a", b"bc"])?, Value::Word(i)]?;
-        check(&rt, alloc, Operator::At, args, bytes(alloc, want)?)?;
-    }
-    let args = vec![in alloc;
-        blocks(alloc, &[b"a", b"bc"])?,
-        Value::Word(0),
-        bytes(alloc, b"")?,
-    ]?;
-    check(
-        &rt,
-        alloc,
-        Operator::Upd,
-        args,
-        blocks(alloc, &[b"", b"bc"])?,
-    )?;
-    let args = vec![in alloc;
-        blocks(alloc, &[b"a", b"bc"])?,
-        Value::Word(2),
-        bytes(alloc, b"z")?,
-    ]?;
-    check(
-        &rt,
-        alloc,
-        Operator::Upd,
-        args,
-        blocks(alloc, &[b"a", b"bc"])?,
-    )?;
-    let args = vec![in alloc;
-        blocks(alloc, &[b"a", b"bc"])?,
-        Value::Word(1),
-        Value::Word(5),
-    ]?;
-    check(&rt, alloc, Operator::Sub, args, blocks(alloc, &[b"bc"])?)?;
-    let args = vec![in alloc; blocks(alloc, &[b"a"])?, blocks(alloc, &[b"", b"b"])?]?;
-    check(
-        &rt,
-        alloc,
-        Operator::Cat,
-        args,
-        blocks(alloc, &[b"a", b"", b"b"])?,
-    )?;
-    for (x, length, zero) in [
-        ([].as_slice(), 0, true),
-        ([b"".as_slice(), b"".as_slice()].as_slice(), 2, true),
-        ([b"\x00".as_slice()].as_slice(), 1, false),
-    ] {
-        let args = vec![in alloc; blocks(alloc, x)?]?;
-        check(&rt, alloc, Operator::Len, args, Value::Word(length))?;
-        let args = vec![in alloc; blocks(alloc, x)?]?;
-        check(&rt, alloc, Operator::IsZero, args, Value::Bool(zero))?;
-        let args = vec![in alloc; blocks(alloc, x)?, blocks(alloc, &[b"\x00"])?]?;
-        check(&rt, alloc, Operator::Equal, args, Value::Bool(!zero))?;
-    }
-    let args = vec![in alloc; bytes(alloc, b"xy")?]?;
-    check(
-        &rt,
-        alloc,
-        Operator::Blocks(2),
-        args,
-        blocks(alloc, &[b"xy", b"xy"])?,
-    )?;
-    let args = vec![in alloc; bytes(alloc, b"xy")?]?;
-    check(&rt, alloc, Operator::Blocks(0), args, blocks(alloc, &[])?)
+    check_rows(&rt, rt.alloc(), &BLOCK_LISTS)
 }

@@ -1,5 +1,7 @@
 //! Words and truth values.
 
+use super::rows::Written::{Bool, Bytes, Word};
+use super::rows::{Row, check_rows};
 use super::{bytes, check};
 use crate::operator::Operator;
 use crate::term::MakeFault;
@@ -128,45 +130,42 @@ fn words_compared(rt: HostRuntime) -> Result<(), MakeFault> {
     Ok(())
 }
 
+static TRUTH_VALUES: [Row; 22] = [
+    (Operator::And, &[Bool(false), Bool(false)], Bool(false)),
+    (Operator::And, &[Bool(false), Bool(true)], Bool(false)),
+    (Operator::And, &[Bool(true), Bool(false)], Bool(false)),
+    (Operator::And, &[Bool(true), Bool(true)], Bool(true)),
+    (Operator::Or, &[Bool(false), Bool(false)], Bool(false)),
+    (Operator::Or, &[Bool(false), Bool(true)], Bool(true)),
+    (Operator::Or, &[Bool(true), Bool(false)], Bool(true)),
+    (Operator::Or, &[Bool(true), Bool(true)], Bool(true)),
+    (Operator::Imp, &[Bool(false), Bool(false)], Bool(true)),
+    (Operator::Imp, &[Bool(false), Bool(true)], Bool(true)),
+    (Operator::Imp, &[Bool(true), Bool(false)], Bool(false)),
+    (Operator::Imp, &[Bool(true), Bool(true)], Bool(true)),
+    (Operator::Equal, &[Bool(false), Bool(false)], Bool(true)),
+    (Operator::Equal, &[Bool(false), Bool(true)], Bool(false)),
+    (Operator::Equal, &[Bool(true), Bool(false)], Bool(false)),
+    (Operator::Equal, &[Bool(true), Bool(true)], Bool(true)),
+    (Operator::Not, &[Bool(true)], Bool(false)),
+    (Operator::If, &[Bool(true), Word(1), Word(2)], Word(1)),
+    (
+        Operator::If,
+        &[Bool(true), Bytes(b"a"), Bytes(b"")],
+        Bytes(b"a"),
+    ),
+    (Operator::Not, &[Bool(false)], Bool(true)),
+    (Operator::If, &[Bool(false), Word(1), Word(2)], Word(2)),
+    (
+        Operator::If,
+        &[Bool(false), Bytes(b"a"), Bytes(b"")],
+        Bytes(b""),
+    ),
+];
+
 #[test]
 fn truth_values(rt: HostRuntime) -> Result<(), MakeFault> {
-    let alloc = rt.alloc();
-    for (operator, p, q, want) in [
-        (Operator::And, false, false, false),
-        (Operator::And, false, true, false),
-        (Operator::And, true, false, false),
-        (Operator::And, true, true, true),
-        (Operator::Or, false, false, false),
-        (Operator::Or, false, true, true),
-        (Operator::Or, true, false, true),
-        (Operator::Or, true, true, true),
-        (Operator::Imp, false, false, true),
-        (Operator::Imp, false, true, true),
-        (Operator::Imp, true, false, false),
-        (Operator::Imp, true, true, true),
-        (Operator::Equal, false, false, true),
-        (Operator::Equal, false, true, false),
-        (Operator::Equal, true, false, false),
-        (Operator::Equal, true, true, true),
-    ] {
-        let args = vec![in alloc; Value::Bool(p), Value::Bool(q)]?;
-        check(&rt, alloc, operator, args, Value::Bool(want))?;
-    }
-    for p in [true, false] {
-        let args = vec![in alloc; Value::Bool(p)]?;
-        check(&rt, alloc, Operator::Not, args, Value::Bool(!p))?;
-        let args = vec![in alloc; Value::Bool(p), Value::Word(1), Value::Word(2)]?;
-        let want = if p { 1 } else { 2 };
-        check(&rt, alloc, Operator::If, args, Value::Word(want))?;
-        let args = vec![in alloc; Value::Bool(p), bytes(alloc, b"a")?, bytes(alloc, b"")?]?;
-        let want = if p {
-            bytes(alloc, b"a")?
-        } else {
-            bytes(alloc, b"")?
-        };
-        check(&rt, alloc, Operator::If, args, want)?;
-    }
-    Ok(())
+    check_rows(&rt, rt.alloc(), &TRUTH_VALUES)
 }
 
 #[test]
