@@ -3,6 +3,7 @@ pub mod Cuts
 pub mod FirstFaults
 pub mod FormFronts
 pub mod Fronts
+pub mod GoPieces
 pub mod Letters
 pub mod Longest
 pub mod NextPieces

@@ -9,18 +9,21 @@ use Rattle.gv_base.specs.declared.answers.Refusal.{Refusal}
 use Rattle.gv_base.specs.declared.token.Kind.{Kind}
 use Rattle.gv_base.specs.declared.token.Token.{Token}
 use Rattle.gv_tokens.specs.Layout.{kind_of, ends_line, has_newline, tokens_for, pending_for, inserted, laid}
-use Rattle.gv_tokens.specs.Pieces.{Piece, IsCut}
-use Rattle.gv_tokens.specs.Reading.{mark_length, byte_order_mark, body_of, IsRead}
+use Rattle.gv_tokens.specs.declared.form.Form.{Form}
+use Rattle.gv_tokens.specs.Cutting.{Piece, Lexis, IsCut}
+use Rattle.gv_tokens.specs.Judging.{mark_length, byte_order_mark, body_of, IsRead}
+use Rattle.gv_tokens.specs.Reading.{go}
 use Rattle.gv_tokens.proofs.Cuts.{has_its_bytes}
 
-abbrev total : List Piece → ℕ
+-- how many bytes pieces have
+abbrev pub total : {F : Type 0} → List (Piece F) → ℕ
 total [] = 0
 total (p ∷ ps) = length p.bytes + total ps
 
-total_fits : (text : List ℕ) (ps : List Piece) (rest : List ℕ) → IsCut text ps rest → total ps ≤ length text
-total_fits text [] rest c = omega arith
-total_fits text (p ∷ ps) rest c =
-    omega (arith, total_fits (drop (length p.bytes) text) ps rest c.1, length-drop (length p.bytes) text, has_its_bytes p text c.0.begins)
+total_fits : {F : Type 0} (kind : Lexis F) (text : List ℕ) (ps : List (Piece F)) (rest : List ℕ) → IsCut kind text ps rest → total ps ≤ length text
+total_fits kind text [] rest c = omega arith
+total_fits kind text (p ∷ ps) rest c =
+    omega (arith, total_fits kind (drop (length p.bytes) text) ps rest c.1, length-drop (length p.bytes) text, has_its_bytes p text c.0.begins)
 
 -- the place of a semicolon that may be inserted is not before the last token's end, and not after here
 abbrev IsBetween : ℕ → ℕ → Option ℕ → Type 0
@@ -55,7 +58,7 @@ one_piece None ends from at end pending bytes more h f = gap (has_newline bytes)
     gap true (Some q) g = (g.0, omega arith, f q None (omega arith))
     gap false wanted g = f from wanted (stays from at (length bytes) wanted g)
 
-laid_spans : (ps : List Piece) (from at end : ℕ) (pending : Option ℕ) → IsBetween from at pending → at + total ps ≤ end → AreSpans from end (laid at pending ps)
+laid_spans : (ps : List (Piece Form)) (from at end : ℕ) (pending : Option ℕ) → IsBetween from at pending → at + total ps ≤ end → AreSpans from end (laid at pending ps)
 laid_spans [] from at end pending h l = at_the_end from at end pending h (omega arith)
 laid_spans (p ∷ ps) from at end pending h l =
     one_piece (kind_of p.form p.bytes) (ends_line p.form p.bytes) from at end pending p.bytes (λ next. laid (at + length p.bytes) next ps) h
@@ -80,10 +83,18 @@ mark_fits (a ∷ []) = no_mark_in_one (eqb a 0xEF)
 mark_fits (a ∷ b ∷ []) = no_mark (eqb a 0xEF) (eqb b 0xBB) 2
 mark_fits (a ∷ b ∷ c ∷ bs) = three_at_most (bytes_eq (a ∷ b ∷ c ∷ []) byte_order_mark) (length bs)
 
-pub spans_of : (text : List ℕ) (result : Result (Vec Token Global) Refusal) → IfOk result (λ v. IsRead text v.items) → IfOk result (λ v. AreSpans 0 (length text) v.items)
-spans_of text (Ok v) h =
+-- pieces give tokens in order
+abbrev pub LaysInOrder : {F : Type 0} → Lexis F → Type 0
+LaysInOrder {F} kind = (ps : List (Piece F)) (from at end : ℕ) → from ≤ at → at + total ps ≤ end → AreSpans from end (kind.tokens_at at ps)
+
+pub go_lays_in_order : LaysInOrder go
+go_lays_in_order ps from at end h l = laid_spans ps from at end None h l
+
+pub spans_of : {F : Type 0} (kind : Lexis F) → LaysInOrder kind → (text : List ℕ) (result : Result (Vec Token Global) Refusal) → IfOk result (λ v. IsRead kind text v.items)
+    → IfOk result (λ v. AreSpans 0 (length text) v.items)
+spans_of kind lays text (Ok v) h =
     let pieces = h.spelled.pieces in
     let fits : mark_length text + total pieces ≤ length text =
-    omega (arith, total_fits (body_of text) pieces [] h.spelled.cut, length-drop (mark_length text) text, mark_fits text) in
-    subst (AreSpans 0 (length text)) (sym h.spelled.listed) (laid_spans pieces 0 (mark_length text) (length text) None (omega arith) fits)
-spans_of text (Err e) h = tt
+    omega (arith, total_fits kind (body_of text) pieces [] h.spelled.cut, length-drop (mark_length text) text, mark_fits text) in
+    subst (AreSpans 0 (length text)) (sym h.spelled.listed) (lays pieces 0 (mark_length text) (length text) (omega arith) fits)
+spans_of kind lays text (Err e) h = tt

@@ -1,11 +1,10 @@
 -- The faults of pieces.
-use Rattle.std.specs.Prelude.{◌≡◌, ℕ, ◌-◌, Bool, ◌&&◌, ◌==◌, ◌<◌, nat_lt, if◌then◌else◌, Option, Some, None, option_map, List, length, position, slice_index}
+use Rattle.std.specs.Prelude.{ℕ, ◌-◌, Bool, ◌&&◌, ◌==◌, nat_lt, if◌then◌else◌, Option, Some, None, option_map, List, length, position, slice_index}
 use Rattle.gv_base.specs.declared.answers.Code.{Code}
 use Rattle.gv_base.specs.declared.answers.Code.TheVariants.{BadChar, OpenComment, OpenText, NotInProfile}
 use Rattle.gv_tokens.specs.declared.form.Form.{Form}
 use Rattle.gv_tokens.specs.declared.form.Form.TheVariants.{Blank, LineComment, BlockComment, Word, Number, Text, RawText, Rune, Sign}
 use Rattle.gv_tokens.specs.Numbers.{number_fault}
-use Rattle.gv_tokens.specs.Pieces.{Piece, IsLongest, BeginsWithNone}
 
 abbrev pub is_backslash : ℕ → Bool
 is_backslash b = b == 92
@@ -34,11 +33,3 @@ fault_of Text bytes = text_fault bytes
 fault_of RawText bytes = Some (0, if is_closed 96 bytes then NotInProfile else OpenText)
 fault_of Rune bytes = Some (0, NotInProfile)
 fault_of Sign bytes = None
-
-abbrev pub IsRight : Piece → Type 0
-IsRight p = fault_of p.form p.bytes ≡ None
-
--- A text begins with a piece that has a fault, or with what begins no piece; the number counts the bytes before the place.
-pub data FaultsAt (text : List ℕ) (before : ℕ) (code : Code) : Type 0 where
-  wrong : (p : Piece) → IsLongest p text → fault_of p.form p.bytes ≡ Some (before, code) → FaultsAt text before code
-  stray : 0 < length text → BeginsWithNone text → before ≡ 0 → code ≡ BadChar → FaultsAt text before code

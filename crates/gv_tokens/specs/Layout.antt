@@ -8,7 +8,7 @@ use Rattle.gv_base.specs.declared.token.Kind.TheVariants as kind
 use Rattle.gv_base.specs.declared.token.Token.{Token}
 use Rattle.gv_tokens.specs.declared.form.Form.{Form}
 use Rattle.gv_tokens.specs.declared.form.Form.TheVariants.{Blank, LineComment, BlockComment, Word, Number, Text, RawText, Rune, Sign}
-use Rattle.gv_tokens.specs.Pieces.{Piece}
+use Rattle.gv_tokens.specs.Cutting.{Piece}
 use Rattle.gv_tokens.specs.Signs.{is_among}
 
 abbrev pub sign_kind : List ℕ → Kind
@@ -77,7 +77,7 @@ pending_for (Some kind) ends at pending bytes = if ends then Some (at + length b
 pending_for None ends at pending bytes = if has_newline bytes then None else pending
 
 -- The tokens of a text's last pieces, from a place on. A semicolon stands directly after the last token of a line.
-abbrev pub laid : ℕ → Option ℕ → List Piece → List Token
+abbrev pub laid : ℕ → Option ℕ → List (Piece Form) → List Token
 laid at pending [] = inserted pending
 laid at pending (p ∷ ps) =
     tokens_for (kind_of p.form p.bytes) at pending p.bytes

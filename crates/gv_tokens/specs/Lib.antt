@@ -1,8 +1,10 @@
 pub mod Bytes
 pub mod Chars
 pub mod Comments
+pub mod Cutting
 pub mod Faults
 pub mod Forms
+pub mod Judging
 pub mod Layout
 pub mod Lengths
 pub mod Numbers

@@ -19,7 +19,8 @@ fn kind_of(form: Form, bytes: &[u8]) -> Option<Kind>
     }
 }
 
-fn sign_kind(sign: &[u8]) -> Kind
+/// The kind of a sign as a token.
+pub fn sign_kind(sign: &[u8]) -> Kind
     ensures { result ≡ spec.sign_kind sign.now }
 {
     match sign {

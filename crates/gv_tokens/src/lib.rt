@@ -9,6 +9,7 @@ mod chars;
 mod comments;
 mod faults;
 mod form;
+mod judging;
 mod layout;
 mod numbers;
 mod pieces;
@@ -20,5 +21,10 @@ mod tests;
 mod texts;
 mod words;
 
+pub use bytes::{is_blank, is_decimal, is_digit};
+pub use comments::line_len;
 pub use gv_base::{Kind, Token, place_of};
+pub use judging::{Stop, judged, mark_len, utf8_end};
+pub use layout::sign_kind;
+pub use pieces::blank_len;
 pub use reading::tokens;

@@ -32,7 +32,8 @@ pub fn len_of(form: Form, text: &[u8]) -> usize
     }
 }
 
-fn blank_len(text: &[u8]) -> usize
+/// How many bytes the white space character at the front of a text has: 1, or 0 where there is none.
+pub fn blank_len(text: &[u8]) -> usize
     ensures value { result ≡ optional spec_blank nothing text.now }
     ensures within { result ≤ length text.now }
 {

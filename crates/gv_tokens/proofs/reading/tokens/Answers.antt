@@ -1,12 +1,17 @@
-use Rattle.gv_tokens.proofs.FirstFaults.{read_so, refused_so}
-use Rattle.gv_tokens.proofs.Spans.{spans_of}
+use Rattle.gv_tokens.specs.Reading.{go}
+use Rattle.gv_tokens.proofs.FirstFaults.{judged_so, read_so, refused_so}
+use Rattle.gv_tokens.proofs.Spans.{go_lays_in_order, spans_of}
 use Rattle.gv_tokens.proofs.reading.tokens.Goals as goal
 
-pub returns-clause-only : goal.returns-clause-only
-returns-clause-only c = read_so c.args.text.now c.judged.result c.judged.ensures.read c.judged.ensures.refused
-
-pub returns-clause-fault : goal.returns-clause-fault
-returns-clause-fault c = refused_so c.args.text.now c.judged.result c.judged.ensures.read c.judged.ensures.refused
-
-pub returns-clause-spans : goal.returns-clause-spans
-returns-clause-spans c = spans_of c.args.text.now c.judged.result c.judged.ensures.read
+pub returns : goal.returns
+returns c =
+    let text = c.args.text.now in
+    let result = c.judged.result in
+    let so = judged_so go text c.tokens_of.result c.utf8_end.result result c.tokens_of.ensures c.utf8_end.ensures c.judged.ensures in
+    record {
+      read = so.0;
+      only = read_so go text result so.0 so.1;
+      spans = spans_of go go_lays_in_order text result so.0;
+      refused = so.1;
+      fault = refused_so go text result so.0 so.1;
+    }
