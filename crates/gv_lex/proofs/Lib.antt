@@ -1,0 +1,4 @@
+pub mod OwnFronts
+pub mod OwnPieces
+pub mod Values
+mod Worked

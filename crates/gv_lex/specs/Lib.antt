@@ -1,0 +1,9 @@
+pub mod Bytes
+pub mod Forms
+pub mod Layout
+pub mod Literals
+pub mod Names
+pub mod Numbers
+pub mod Pieces
+pub mod Reading
+pub mod Signs

@@ -1,0 +1,44 @@
+-- Numbers as pieces, right and wrong.
+use Rattle.std.specs.Prelude.{ℕ, ◌+◌, ◌*◌, ◌^◌, Bool, not, ◌||◌, ◌&&◌, ◌==◌, nat_le, if◌then◌else◌, Option, Some, None, List, length, drop, fold, slice_index}
+use Rattle.std.specs.Char.{is_digit, digit_value}
+use Rattle.std.specs.List.{list_all, prefix_len}
+use Rattle.gv_lex.specs.Bytes.{is_name_byte}
+
+-- the letters, digits and `_` at the front
+abbrev pub number_length : List ℕ → ℕ
+number_length text = prefix_len is_name_byte text
+
+-- at least one digit, and digits alone
+abbrev pub are_digits : ℕ → List ℕ → Bool
+are_digits radix bytes = not (length bytes == 0) && list_all (λ b. is_digit b radix) bytes
+
+abbrev pub with_digit : ℕ → ℕ → ℕ → ℕ
+with_digit radix n b = n * radix + digit_value b
+
+-- the value of digits
+unfoldable pub value_of : ℕ → List ℕ → ℕ
+value_of radix digits = fold (with_digit radix) 0 digits
+
+-- the largest number that a text may hold
+abbrev pub largest : ℕ
+largest = 2 ^ 127
+
+abbrev pub fitting : ℕ → Option ℕ
+fitting n = if nat_le n largest then Some n else None
+
+-- decimal digits without a leading zero, up to the largest number
+abbrev pub is_right_decimal : List ℕ → Bool
+is_right_decimal digits =
+    are_digits 10 digits && ((length digits == 1 || not (slice_index digits 0 == 48)) && nat_le (value_of 10 digits) largest)
+
+-- hexadecimal digits of either case, up to the largest number
+abbrev pub is_right_hexadecimal : List ℕ → Bool
+is_right_hexadecimal digits = are_digits 16 digits && nat_le (value_of 16 digits) largest
+
+-- whether bytes begin with `0x`
+abbrev pub has_prefix : List ℕ → Bool
+has_prefix bytes = slice_index bytes 0 == 48 && slice_index bytes 1 == 120
+
+-- a decimal number, or `0x` and hexadecimal digits
+abbrev pub is_right_number : List ℕ → Bool
+is_right_number bytes = if has_prefix bytes then is_right_hexadecimal (drop 2 bytes) else is_right_decimal bytes
