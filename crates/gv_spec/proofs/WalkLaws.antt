@@ -25,13 +25,13 @@ both_true true t h k = k
 both_true false t h k = h
 
 module _ {V : Type 0} (same : V → V → Bool) (decides : (x y : V) → IsTrue (same x y) ↔ (x ≡ y)) where
-  own_entry : (e : Entry V) → same_entry same e e ≡ true
+  pub own_entry : (e : Entry V) → same_entry same e e ≡ true
   own_entry (entry.Call n op args) = both_true (eqb n n && eqb op op) (pointwise same args args) (both_true (eqb n n) (eqb op op) (eq-eqb n n refl) (eq-eqb op op refl)) ((pointwise_decides decides args args).1 refl)
   own_entry (entry.Answer n reply) = both_true (eqb n n) (same reply reply) (eq-eqb n n refl) ((decides reply reply).1 refl)
   own_entry entry.Crash = refl
   own_entry entry.Boot = refl
 
-  entries_same : (e f : Entry V) → same_entry same e f ≡ true → e ≡ f
+  pub entries_same : (e f : Entry V) → same_entry same e f ≡ true → e ≡ f
   entries_same (entry.Call n op args) (entry.Call m other values) h =
       let tests = left_true (eqb n m && eqb op other) (pointwise same args values) h in
       let numbers : n ≡ m = eqb-true n m (left_true (eqb n m) (eqb op other) tests) in

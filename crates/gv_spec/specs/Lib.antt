@@ -2,6 +2,7 @@ pub mod Atomic
 pub mod Entry
 pub mod Event
 pub mod Examples
+pub mod History
 pub mod Machine
 pub mod Meaning
 pub mod Move

@@ -1,0 +1,34 @@
+-- Entries and moves as the program holds them, as those of the definitions.
+use Rattle.std.specs.Prelude.{List, IsTrue}
+use Rattle.gv_terms.specs.declared.value.Value.{Value}
+use Rattle.gv_terms.specs.declared.spec.Spec.{Spec}
+use Rattle.gv_spec.specs.declared.entry.Entry as held
+use Rattle.gv_spec.specs.declared.entry.Entry.TheVariants as held_entry
+use Rattle.gv_spec.specs.declared.explanation.Move as held_moves
+use Rattle.gv_spec.specs.declared.explanation.Move.TheVariants as held_move
+use Rattle.gv_spec.specs.Entry as entry
+use Rattle.gv_spec.specs.Move as move
+use Rattle.gv_spec.specs.Entry.{Entry}
+use Rattle.gv_spec.specs.Move.{Move}
+use Rattle.gv_spec.specs.Atomic.{are_args}
+
+abbrev pub entry_of : held.Entry → Entry Value
+entry_of (held_entry.Call number op args) = entry.Call number op args
+entry_of (held_entry.Answer number reply) = entry.Answer number reply
+entry_of held_entry.Crash = entry.Crash
+entry_of held_entry.Boot = entry.Boot
+
+abbrev pub move_of : held_moves.Move → Move Value
+move_of (held_move.Act number) = move.Act number
+move_of (held_move.Other e) = move.Other (entry_of e)
+
+-- a call is of an operation of the specification, with arguments of its parameters' sorts
+abbrev pub IsEntryOf : Spec → held.Entry → Type 0
+IsEntryOf s (held_entry.Call number op args) = IsTrue (are_args s op args)
+IsEntryOf s (held_entry.Answer number reply) = Unit {0}
+IsEntryOf s held_entry.Crash = Unit {0}
+IsEntryOf s held_entry.Boot = Unit {0}
+
+abbrev pub IsMoveOf : Spec → held_moves.Move → Type 0
+IsMoveOf s (held_move.Act number) = Unit {0}
+IsMoveOf s (held_move.Other e) = IsEntryOf s e
