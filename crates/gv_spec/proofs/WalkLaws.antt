@@ -49,7 +49,7 @@ module _ {V : Type 0} (same : V → V → Bool) (decides : (x y : V) → IsTrue 
 -- ---- one move
 
 -- what a move that the walk doesn't refuse has met, and what it leaves
-data Walked {F V : Type 0} (atomic : Specification F V) (w u : WalkState F V) : Move V → Type 0 where
+pub data Walked {F V : Type 0} (atomic : Specification F V) (w u : WalkState F V) : Move V → Type 0 where
   by_call : (n op : ℕ) (args : List V) → w.table n ≡ NeverCalled → u.fields ≡ w.fields → u.table ≡ entered w.table n (Called op args) → Walked atomic w u (move.Other (entry.Call n op args))
   by_act : (n op : ℕ) (args : List V) → w.table n ≡ Called op args → u.table ≡ entered w.table n (Acted (atomic.applied op args w.fields).1) → Walked atomic w u (move.Act n)
   by_answer : (n : ℕ) (reply : V) → w.table n ≡ Acted reply → u.table ≡ entered w.table n Answered → Walked atomic w u (move.Other (entry.Answer n reply))
@@ -94,7 +94,7 @@ module _ {F V : Type 0} (atomic : Specification F V) where
   answered_walked w u n reply Answered h e = absurd cc
   answered_walked w u n reply Dropped h e = absurd cc
 
-  moved_walked : (w u : WalkState F V) (m : Move V) → walk_moved atomic w m ≡ Ok u → Walked atomic w u m
+  pub moved_walked : (w u : WalkState F V) (m : Move V) → walk_moved atomic w m ≡ Ok u → Walked atomic w u m
   moved_walked w u (move.Act n) e = acted_walked w u n (w.table n) refl e
   moved_walked w u (move.Other (entry.Call n op args)) e = called_walked w u n op args (w.table n) refl e
   moved_walked w u (move.Other (entry.Answer n reply)) e = answered_walked w u n reply (w.table n) refl e
@@ -229,7 +229,7 @@ module _ {F V : Type 0} (atomic : Specification F V) where
 -- ---- where a standing comes from
 
 -- another call's standing stays, or it is the call itself
-entered_cases : {V : Type 0} (table : ℕ → Standing V) (k : ℕ) (c : Standing V) (n : ℕ) → ((n ≡ k) × (entered table k c n ≡ c)) ⊎ (entered table k c n ≡ table n)
+pub entered_cases : {V : Type 0} (table : ℕ → Standing V) (k : ℕ) (c : Standing V) (n : ℕ) → ((n ≡ k) × (entered table k c n ≡ c)) ⊎ (entered table k c n ≡ table n)
 entered_cases table k c n = go (eqb n k) refl
   where
     go : (b : Bool) → eqb n k ≡ b → ((n ≡ k) × (cond (eqb n k) c (table n) ≡ c)) ⊎ (cond (eqb n k) c (table n) ≡ table n)
@@ -243,7 +243,7 @@ undropped_acted (Acted r) reply h = cc
 undropped_acted Answered reply h = cc
 undropped_acted Dropped reply h = cc
 
-undropped_called : {V : Type 0} (c : Standing V) (op : ℕ) (args : List V) → dropped c ≡ Called op args → ⊥
+pub undropped_called : {V : Type 0} (c : Standing V) (op : ℕ) (args : List V) → dropped c ≡ Called op args → ⊥
 undropped_called NeverCalled op args h = cc
 undropped_called (Called o a) op args h = cc
 undropped_called (Acted r) op args h = cc
@@ -253,7 +253,7 @@ undropped_called Dropped op args h = cc
 acted_same : {V : Type 0} (r q : V) → Acted r ≡ Acted q → r ≡ q
 acted_same r q h = cc
 
-called_same : {V : Type 0} (o p : ℕ) (a b : List V) → Called o a ≡ Called p b → (o ≡ p) × (a ≡ b)
+pub called_same : {V : Type 0} (o p : ℕ) (a b : List V) → Called o a ≡ Called p b → (o ≡ p) × (a ≡ b)
 called_same o p a b h = (cc, cc)
 
 module _ {F V : Type 0} (atomic : Specification F V) where

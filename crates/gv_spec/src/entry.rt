@@ -3,8 +3,9 @@
 ghost use Rattle.std.specs.Prelude.{◌≡◌, ◌↔◌, IfOk, IsTrue};
 ghost use Rattle.gv_spec.specs.declared.entry.Entry.TheVariants as entry;
 
+use crate::meaning::takes;
 use gv_base::{List, NoMemory};
-use gv_terms::{Value, copy_list, same_lists};
+use gv_terms::{Spec, Value, copy_list, same_lists};
 use std::alloc::Global;
 
 /// An entry of a history: a call of an operation started under a number, counted from 1; the call
@@ -26,6 +27,8 @@ pub enum Entry {
 }
 
 impl Entry {
+    ghost use Rattle.gv_spec.specs.History.{IsEntryOf};
+
     /// An equal entry.
     pub fn copy(&self, alloc: Global) -> Result<Entry, NoMemory>
         ensures { IfOk result (λ e. e ≡ self.now) }
@@ -54,6 +57,20 @@ impl Entry {
             Entry::Answer { number, reply } => other.is_answer(*number, reply),
             Entry::Crash => other.is_crash(),
             Entry::Boot => other.is_boot(),
+        }
+    }
+
+    /// Whether a call is of an operation of the specification, with arguments of its parameters' sorts.
+    pub fn is_of(&self, spec: &Spec) -> bool
+        ensures { IsTrue result ↔ IsEntryOf spec.now self.now }
+    {
+        match self {
+            Entry::Call {
+                number: _,
+                op,
+                args,
+            } => takes(spec, *op, args.as_slice()),
+            _ => true,
         }
     }
 
