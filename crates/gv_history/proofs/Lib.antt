@@ -1,0 +1,4 @@
+pub mod TableLemmas
+pub mod WalkerLemmas
+pub mod BesideLemmas
+pub mod WalkingLemmas

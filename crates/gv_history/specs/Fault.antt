@@ -1,0 +1,44 @@
+-- Faults as the program tells them, as those of the definitions.
+use Rattle.std.specs.Prelude.{◌≡◌, ℕ, List, Result, Ok, Err}
+use Rattle.gv_history.specs.declared.fault.WalkCause as held_cause
+use Rattle.gv_history.specs.declared.fault.WalkCause.TheVariants as told
+use Rattle.gv_history.specs.declared.fault.WalkFault as held_fault
+use Rattle.gv_history.specs.declared.fault.WalkFault.TheVariants as fault
+use Rattle.gv_spec.specs.Entry.{Entry}
+use Rattle.gv_spec.specs.Move.{Move}
+use Rattle.gv_spec.specs.Specification.{Specification}
+use Rattle.gv_spec.specs.Walks.{Explains, WalkState, WalkCause, WalkFault, Repeated, NotCalled, ActedAlready, NotActed, WrongReply, Order, Missing}
+
+abbrev pub cause_of : held_cause.WalkCause → WalkCause
+cause_of told.Repeated = Repeated
+cause_of told.NotCalled = NotCalled
+cause_of told.ActedAlready = ActedAlready
+cause_of told.NotActed = NotActed
+cause_of told.WrongReply = WrongReply
+cause_of told.Order = Order
+cause_of told.Missing = Missing
+
+-- the fields where a walk ended, or its fault
+abbrev pub fields_at_end : {F V : Type 0} → Result (WalkState F V) WalkFault → Result F WalkFault
+fields_at_end (Ok w) = Ok w.fields
+fields_at_end (Err fault) = Err fault
+
+-- the walk has this fault; want of memory tells nothing of it
+abbrev pub IsFaultOf : {A : Type 0} → Result A WalkFault → held_fault.WalkFault → Type 0
+IsFaultOf walked fault.NoMemory = Unit {0}
+IsFaultOf walked (fault.At index cause) = walked ≡ Err (record { index = index; cause = cause_of cause })
+
+-- the moves are no explanation of the history; want of memory tells nothing of them
+abbrev pub IsUnexplained : {F V : Type 0} → Specification F V → List (Move V) → List (Entry V) → held_fault.WalkFault → Type 0
+IsUnexplained atomic moves history fault.NoMemory = Unit {0}
+IsUnexplained atomic moves history (fault.At index cause) = Explains atomic moves history → ⊥
+
+-- the move under this number is refused for this cause
+abbrev pub IsRefused : {A : Type 0} → ℕ → Result A WalkCause → held_fault.WalkFault → Type 0
+IsRefused index moved fault.NoMemory = Unit {0}
+IsRefused index moved (fault.At at cause) = (at ≡ index) × (moved ≡ Err (cause_of cause))
+
+-- the walk stands so after the move under this number, or the move is refused
+abbrev pub Follows : {A W : Type 0} → ℕ → Result A held_fault.WalkFault → Result W WalkCause → W → Type 0
+Follows index (Ok a) moved after = moved ≡ Ok after
+Follows index (Err e) moved after = IsRefused index moved e

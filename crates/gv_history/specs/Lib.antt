@@ -1,0 +1,5 @@
+pub mod Beside
+pub mod Fault
+pub mod Seen
+pub mod Table
+pub mod Walker
