@@ -10,6 +10,9 @@ use std::test::Fail;
 
 const CHECK: [&str; 4] = ["check", "p", "s", "t"];
 
+// A piece of a text, and the piece in its place.
+type Change = (&'static str, &'static str);
+
 // No newline, and blanks and empty lines.
 const ENDS: [&str; 2] = ["", "\n \t \n\n\n  "];
 
@@ -60,98 +63,76 @@ fn accepts_package(rt: &impl Abort, alloc: Global, old: &str, new: &str) -> Resu
     accepts(rt, alloc, package.as_bytes(), SPEC, SCRIPT)
 }
 
-#[test]
-fn refuses_packages_up_to_their_methods(rt: HostRuntime) -> Result<(), Fail> {
-    let alloc = rt.alloc();
-    let table = [
-        ("package adder\n\n", "package adder;\n;\n"),
-        ("type Adder struct{}", "type Adder struct{ n uint64 }"),
-        ("return &Adder{}", "return &Other{}"),
-    ];
-    for (old, new) in table {
-        refuses_package(&rt, alloc, old, new)?;
-    }
-    Ok(())
-}
-
-#[test]
-fn refuses_sums(rt: HostRuntime) -> Result<(), Fail> {
-    let alloc = rt.alloc();
-    let table = [
-        "return 1 + a",
-        "return a + 007",
-        "return a + 18446744073709551616",
-        "return a + c",
-        "return a * b",
-        "return a + b // sum",
-        "return a\n\t+ b",
-    ];
-    for sum in table {
-        refuses_package(&rt, alloc, "return a + b", sum)?;
-    }
-    Ok(())
-}
-
-#[test]
-fn refuses_heads_of_methods(rt: HostRuntime) -> Result<(), Fail> {
-    let alloc = rt.alloc();
-    let table = [
-        ("(a uint64, b uint64)", "(a, b uint64)"),
-        (
-            "(a uint64, b uint64) uint64 {\n\treturn a + b",
-            "(a uint64, a uint64) uint64 {\n\treturn a",
-        ),
-        ("func (s *Adder) Add(", "func (a *Adder) Add("),
-        ("func (s *Adder) Add(", "func (s *Adder) add("),
-        ("func (s *Adder) Add(", "func (s *Adder) Recover("),
-        ("func (s *Adder)", "func (len *Adder)"),
-        (") uint64 {\n", ") uint64\n{\n"),
-    ];
-    for (old, new) in table {
-        refuses_package(&rt, alloc, old, new)?;
-    }
-    Ok(())
-}
-
-#[test]
-fn refuses_a_method_twice(rt: HostRuntime) -> Result<(), Fail> {
-    refuses_package(
-        &rt,
-        rt.alloc(),
+static REFUSED_PACKAGES: [Change; 18] = [
+    ("package adder\n\n", "package adder;\n;\n"),
+    ("type Adder struct{}", "type Adder struct{ n uint64 }"),
+    ("return &Adder{}", "return &Other{}"),
+    ("return a + b", "return 1 + a"),
+    ("return a + b", "return a + 007"),
+    ("return a + b", "return a + 18446744073709551616"),
+    ("return a + b", "return a + c"),
+    ("return a + b", "return a * b"),
+    ("return a + b", "return a + b // sum"),
+    ("return a + b", "return a\n\t+ b"),
+    ("(a uint64, b uint64)", "(a, b uint64)"),
+    (
+        "(a uint64, b uint64) uint64 {\n\treturn a + b",
+        "(a uint64, a uint64) uint64 {\n\treturn a",
+    ),
+    ("func (s *Adder) Add(", "func (a *Adder) Add("),
+    ("func (s *Adder) Add(", "func (s *Adder) add("),
+    ("func (s *Adder) Add(", "func (s *Adder) Recover("),
+    ("func (s *Adder)", "func (len *Adder)"),
+    (
         "func (s *Adder) Add(a uint64, b uint64) uint64 {\n\treturn a + b\n}\n",
         "func (s *Adder) Add(a uint64, b uint64) uint64 {\n\treturn a + b\n}\n\nfunc (s *Adder) Add(a uint64, b uint64) uint64 {\n\treturn a + b\n}\n",
-    )
+    ),
+    (") uint64 {\n", ") uint64\n{\n"),
+];
+
+static REFUSED_SPECIFICATIONS: [Change; 7] = [
+    ("spec adder;", "spec adder"),
+    ("disks 0;", "disks 1;"),
+    ("-> Word", "- > Word"),
+    ("reply a + b; }", "reply a + b }"),
+    ("(a: Word, b: Word)", "(a: Word, b: uint64)"),
+    ("crash { }", "crash { };"),
+    (
+        "spec adder;\ndisks 0;\nop Add(a: Word, b: Word) -> Word { reply a + b; }\ncrash { }\n",
+        "",
+    ),
+];
+
+static REFUSED_SCRIPTS: [Change; 4] = [
+    (" sim me;", ""),
+    ("op Add {", "op add {"),
+    (" step; }", " ; }"),
+    ("root H;", "root G;"),
+];
+
+#[test]
+fn refuses_packages(rt: HostRuntime) -> Result<(), Fail> {
+    let alloc = rt.alloc();
+    for (old, new) in &REFUSED_PACKAGES {
+        refuses_package(&rt, alloc, *old, *new)?;
+    }
+    Ok(())
 }
 
 #[test]
 fn refuses_specifications(rt: HostRuntime) -> Result<(), Fail> {
     let alloc = rt.alloc();
-    let table = [
-        ("spec adder;", "spec adder"),
-        ("disks 0;", "disks 1;"),
-        ("-> Word", "- > Word"),
-        ("reply a + b; }", "reply a + b }"),
-        ("(a: Word, b: Word)", "(a: Word, b: uint64)"),
-        ("crash { }", "crash { };"),
-    ];
-    for (old, new) in table {
-        refuses_spec(&rt, alloc, old, new)?;
+    for (old, new) in &REFUSED_SPECIFICATIONS {
+        refuses_spec(&rt, alloc, *old, *new)?;
     }
-    let texts: (&[u8], &[u8], &[u8]) = (PACKAGE, b"", SCRIPT);
-    answers(&rt, alloc, &CHECK, texts, 4, b"s:1:1 NotInProfile\n")
+    Ok(())
 }
 
 #[test]
 fn refuses_scripts(rt: HostRuntime) -> Result<(), Fail> {
     let alloc = rt.alloc();
-    let table = [
-        (" sim me;", ""),
-        ("op Add {", "op add {"),
-        (" step; }", " ; }"),
-        ("root H;", "root G;"),
-    ];
-    for (old, new) in table {
-        refuses_script(&rt, alloc, old, new)?;
+    for (old, new) in &REFUSED_SCRIPTS {
+        refuses_script(&rt, alloc, *old, *new)?;
     }
     Ok(())
 }
@@ -192,61 +173,68 @@ fn reads_scripts_with_other_ends(rt: HostRuntime) -> Result<(), Fail> {
     Ok(())
 }
 
+static READ_PACKAGES: [Change; 9] = [
+    ("return a + b", "return a+b"),
+    ("func (s *Adder)", "func \t (s  *Adder )"),
+    ("struct{}\n", "struct{}\n\n\n"),
+    ("uint64 {\n", "uint64 {\n\n \n"),
+    ("return a + b", "return a +\n\tb"),
+    ("\n\treturn a + b\n}", " return a + b }"),
+    ("return a + b", "return a + b;"),
+    ("package adder", "package\nadder;"),
+    ("func (s *Adder)", "func (Add *Adder)"),
+];
+
 #[test]
 fn reads_packages_laid_out_anew(rt: HostRuntime) -> Result<(), Fail> {
     let alloc = rt.alloc();
-    let table = [
-        ("return a + b", "return a+b"),
-        ("func (s *Adder)", "func \t (s  *Adder )"),
-        ("struct{}\n", "struct{}\n\n\n"),
-        ("uint64 {\n", "uint64 {\n\n \n"),
-        ("return a + b", "return a +\n\tb"),
-        ("\n\treturn a + b\n}", " return a + b }"),
-        ("return a + b", "return a + b;"),
-        ("package adder", "package\nadder;"),
-        ("func (s *Adder)", "func (Add *Adder)"),
-    ];
-    for (old, new) in table {
-        accepts_package(&rt, alloc, old, new)?;
+    for (old, new) in &READ_PACKAGES {
+        accepts_package(&rt, alloc, *old, *new)?;
     }
     Ok(())
 }
 
 // The adder with a change of its package, and one of its specification that agrees with it.
-fn accepts_both(
-    rt: &impl Abort,
-    alloc: Global,
-    package: (&str, &str),
-    spec: (&str, &str),
-) -> Result<(), Fail> {
+fn accepts_both(rt: &impl Abort, alloc: Global, package: Change, spec: Change) -> Result<(), Fail> {
     let package = changed(alloc, PACKAGE, package.0, package.1)?;
     let spec = changed(alloc, SPEC, spec.0, spec.1)?;
     accepts(rt, alloc, package.as_bytes(), spec.as_bytes(), SCRIPT)
 }
 
-#[test]
-fn reads_sums(rt: HostRuntime) -> Result<(), Fail> {
-    let alloc = rt.alloc();
-    for sum in ["18446744073709551615", "0", "a - b + 1"] {
-        accepts_both(&rt, alloc, ("a + b", sum), ("a + b", sum))?;
-    }
-    Ok(())
-}
-
-#[test]
-fn reads_other_parameters(rt: HostRuntime) -> Result<(), Fail> {
-    let alloc = rt.alloc();
-    let table = [
-        ("() uint64 {\n\treturn 5", "() -> Word { reply 5; }"),
+static READ_PAIRS: [(Change, Change); 5] = [
+    (
+        ("a + b", "18446744073709551615"),
+        ("a + b", "18446744073709551615"),
+    ),
+    (("a + b", "0"), ("a + b", "0")),
+    (("a + b", "a - b + 1"), ("a + b", "a - b + 1")),
+    (
         (
+            "(a uint64, b uint64) uint64 {\n\treturn a + b",
+            "() uint64 {\n\treturn 5",
+        ),
+        (
+            "(a: Word, b: Word) -> Word { reply a + b; }",
+            "() -> Word { reply 5; }",
+        ),
+    ),
+    (
+        (
+            "(a uint64, b uint64) uint64 {\n\treturn a + b",
             "(op uint64, b uint64) uint64 {\n\treturn op + b",
+        ),
+        (
+            "(a: Word, b: Word) -> Word { reply a + b; }",
             "(op: Word, b: Word) -> Word { reply op + b; }",
         ),
-    ];
-    let method = "(a uint64, b uint64) uint64 {\n\treturn a + b";
-    let operation = "(a: Word, b: Word) -> Word { reply a + b; }";
-    for (package, spec) in table {
-        accepts_both(&rt, alloc, (method, package), (operation, spec))?;
+    ),
+];
+
+#[test]
+fn reads_sums_and_parameters(rt: HostRuntime) -> Result<(), Fail> {
+    let alloc = rt.alloc();
+    for (package, spec) in &READ_PAIRS {
+        accepts_both(&rt, alloc, *package, *spec)?;
     }
     Ok(())
 }
