@@ -8,12 +8,20 @@ use std::alloc::Global;
 
 // The block, or the list, after `upd` at a place.
 fn updated(alloc: Global, list: Value, i: u64, v: Value) -> Result<Value, MakeFault> {
-    value_of(alloc, Operator::Upd, vec![in alloc; list, Value::Word(i), v]?)
+    value_of(
+        alloc,
+        Operator::Upd,
+        vec![in alloc; list, Value::Word(i), v]?,
+    )
 }
 
 // A block of 4,096 bytes, all alike.
 fn block(alloc: Global, byte: u64) -> Result<Value, MakeFault> {
-    value_of(alloc, Operator::Bytes(4096), vec![in alloc; Value::Word(byte)]?)
+    value_of(
+        alloc,
+        Operator::Bytes(4096),
+        vec![in alloc; Value::Word(byte)]?,
+    )
 }
 
 // All blocks alike, then changed at 50 places one after another: a byte string stands at each of
@@ -38,5 +46,11 @@ fn equal_blocks_and_changes(rt: HostRuntime) -> Result<(), MakeFault> {
         let args = vec![in alloc; list.copy(alloc)?, Value::Word(i)]?;
         check(&rt, alloc, Operator::At, args, want)?;
     }
-    check(&rt, alloc, Operator::Len, vec![in alloc; list]?, Value::Word(65_536))
+    check(
+        &rt,
+        alloc,
+        Operator::Len,
+        vec![in alloc; list]?,
+        Value::Word(65_536),
+    )
 }
