@@ -9,7 +9,7 @@ use Rattle.gv_spec.specs.declared.explanation.Move as held_move
 use Rattle.gv_spec.specs.Entry.{Entry}
 use Rattle.gv_spec.specs.Move.{Move}
 use Rattle.gv_spec.specs.Atomic.{atomic_of}
-use Rattle.gv_spec.specs.History.{entry_of, move_of}
+use Rattle.gv_spec.specs.History.{entry_of, move_of, walked}
 use Rattle.gv_spec.specs.Specification.{Specification}
 use Rattle.gv_spec.specs.Walks.{WalkState, WalkCause, WalkFault, Missing, Explains, walk, walk_beside}
 use Rattle.gv_spec.proofs.WalkLaws.{walk_tells}
@@ -81,6 +81,9 @@ handed_on index moved walked (Err x) e is h at = subst (λ y. IsFaultOf walked y
     go (fault.At place cause) k = subst (λ n. walked ≡ Err (record { index = n; cause = cause_of cause })) (sym k.0) (at (cause_of cause) k.1)
 
 -- no explanation has a fault
-pub unexplained : {F V : Type 0} (atomic : Specification F V) (history : List (Entry V)) (moves : List (Move V)) (e : held_fault.WalkFault) → IsFaultOf (walk atomic history moves) e → IsUnexplained atomic moves history e
-unexplained atomic history moves fault.NoMemory h = tt
-unexplained {F} {V} atomic history moves (fault.At index cause) h = λ x. let passes = (walk_tells F V atomic history moves x.end).1 (x.entries, x.passes) in let clash = sym passes ∙ h in cc
+pub unexplained : (s : Spec) (history : List held_entry.Entry) (moves : List held_move.Move) (e : held_fault.WalkFault) → IsFaultOf (walked s history moves) e → IsUnexplained s moves history e
+unexplained s history moves fault.NoMemory h = tt
+unexplained s history moves (fault.At index cause) h = λ x.
+    let passes = (walk_tells (List Value) Value (atomic_of s) (map entry_of history) (map move_of moves) x.end).1 (x.entries, x.passes) in
+    let clash = sym passes ∙ h in
+    cc

@@ -4,10 +4,11 @@ use Rattle.gv_history.specs.declared.fault.WalkCause as held_cause
 use Rattle.gv_history.specs.declared.fault.WalkCause.TheVariants as told
 use Rattle.gv_history.specs.declared.fault.WalkFault as held_fault
 use Rattle.gv_history.specs.declared.fault.WalkFault.TheVariants as fault
-use Rattle.gv_spec.specs.Entry.{Entry}
-use Rattle.gv_spec.specs.Move.{Move}
-use Rattle.gv_spec.specs.Specification.{Specification}
-use Rattle.gv_spec.specs.Walks.{Explains, WalkState, WalkCause, WalkFault, Repeated, NotCalled, ActedAlready, NotActed, WrongReply, Order, Missing}
+use Rattle.gv_terms.specs.declared.spec.Spec.{Spec}
+use Rattle.gv_spec.specs.declared.entry.Entry as held_entry
+use Rattle.gv_spec.specs.declared.explanation.Move as held_move
+use Rattle.gv_spec.specs.History.{IsExplanation}
+use Rattle.gv_spec.specs.Walks.{WalkState, WalkCause, WalkFault, Repeated, NotCalled, ActedAlready, NotActed, WrongReply, Order, Missing}
 
 abbrev pub cause_of : held_cause.WalkCause → WalkCause
 cause_of told.Repeated = Repeated
@@ -28,10 +29,10 @@ abbrev pub IsFaultOf : {A : Type 0} → Result A WalkFault → held_fault.WalkFa
 IsFaultOf walked fault.NoMemory = Unit {0}
 IsFaultOf walked (fault.At index cause) = walked ≡ Err (record { index = index; cause = cause_of cause })
 
--- the moves are no explanation of the history; want of memory tells nothing of them
-abbrev pub IsUnexplained : {F V : Type 0} → Specification F V → List (Move V) → List (Entry V) → held_fault.WalkFault → Type 0
-IsUnexplained atomic moves history fault.NoMemory = Unit {0}
-IsUnexplained atomic moves history (fault.At index cause) = Explains atomic moves history → ⊥
+-- the moves don't explain the history; want of memory tells nothing of them
+abbrev pub IsUnexplained : Spec → List held_move.Move → List held_entry.Entry → held_fault.WalkFault → Type 0
+IsUnexplained s moves history fault.NoMemory = Unit {0}
+IsUnexplained s moves history (fault.At index cause) = IsExplanation s moves history → ⊥
 
 -- the move under this number is refused for this cause
 abbrev pub IsRefused : {A : Type 0} → ℕ → Result A WalkCause → held_fault.WalkFault → Type 0

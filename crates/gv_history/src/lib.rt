@@ -4,6 +4,8 @@
 mod fault;
 mod seen;
 mod table;
+#[cfg(test)]
+mod tests;
 mod walker;
 mod walking;
 

@@ -1,9 +1,7 @@
 //! Whether moves explain a history.
 
-ghost use Rattle.std.specs.Prelude.{◌≡◌, ◌<◌, ◌-◌, ◌^◌, All, IfOk, IfErr, OnOk, length, map};
-ghost use Rattle.gv_spec.specs.Atomic.{atomic_of};
-ghost use Rattle.gv_spec.specs.History.{entry_of, move_of, IsEntryOf, IsMoveOf};
-ghost use Rattle.gv_spec.specs.Walks.{Explains, walk};
+ghost use Rattle.std.specs.Prelude.{◌≡◌, ◌<◌, ◌-◌, ◌^◌, All, IfOk, IfErr, OnOk, length};
+ghost use Rattle.gv_spec.specs.History.{IsEntryOf, IsMoveOf, IsExplanation, walked};
 ghost use Rattle.gv_history.specs.Fault.{fields_at_end, IsFaultOf, IsUnexplained};
 
 use crate::fault::{WalkCause, WalkFault};
@@ -23,10 +21,10 @@ pub fn walk(
     requires few { length moves.now.items < 2 ^ 32 - 1 }
     requires history { All (IsEntryOf spec.now) history.now.items }
     requires moves { All (IsMoveOf spec.now) moves.now.items }
-    ensures passes { IfOk result (λ s. fields_at_end (walk (atomic_of spec.now) (map entry_of history.now.items) (map move_of moves.now.items)) ≡ Ok s.values) }
-    ensures explains { OnOk result (Explains (atomic_of spec.now) (map move_of moves.now.items) (map entry_of history.now.items)) }
-    ensures fault { IfErr result (IsFaultOf (walk (atomic_of spec.now) (map entry_of history.now.items) (map move_of moves.now.items))) }
-    ensures unexplained { IfErr result (IsUnexplained (atomic_of spec.now) (map move_of moves.now.items) (map entry_of history.now.items)) }
+    ensures passes { IfOk result (λ s. fields_at_end (walked spec.now history.now.items moves.now.items) ≡ Ok s.values) }
+    ensures explains { OnOk result (IsExplanation spec.now moves.now.items history.now.items) }
+    ensures fault { IfErr result (IsFaultOf (walked spec.now history.now.items moves.now.items)) }
+    ensures unexplained { IfErr result (IsUnexplained spec.now moves.now.items history.now.items) }
 {
     let mut walker = Walker::start(alloc, spec)?;
     let mut left = history.as_slice();

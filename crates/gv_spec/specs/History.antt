@@ -1,5 +1,5 @@
 -- Entries and moves as the program holds them, as those of the definitions.
-use Rattle.std.specs.Prelude.{IsTrue}
+use Rattle.std.specs.Prelude.{IsTrue, List, Result, map}
 use Rattle.gv_terms.specs.declared.value.Value.{Value}
 use Rattle.gv_terms.specs.declared.spec.Spec.{Spec}
 use Rattle.gv_spec.specs.declared.entry.Entry as held
@@ -10,7 +10,8 @@ use Rattle.gv_spec.specs.Entry as entry
 use Rattle.gv_spec.specs.Move as move
 use Rattle.gv_spec.specs.Entry.{Entry}
 use Rattle.gv_spec.specs.Move.{Move}
-use Rattle.gv_spec.specs.Atomic.{are_args}
+use Rattle.gv_spec.specs.Atomic.{atomic_of, are_args}
+use Rattle.gv_spec.specs.Walks.{WalkState, WalkFault, Explains, walk}
 
 abbrev pub entry_of : held.Entry → Entry Value
 entry_of (held_entry.Call number op args) = entry.Call number op args
@@ -32,3 +33,11 @@ IsEntryOf s held_entry.Boot = Unit {0}
 abbrev pub IsMoveOf : Spec → held_moves.Move → Type 0
 IsMoveOf s (held_move.Act number) = Unit {0}
 IsMoveOf s (held_move.Other e) = IsEntryOf s e
+
+-- the walk of a specification along the moves, beside the history
+abbrev pub walked : Spec → List held.Entry → List held_moves.Move → Result (WalkState (List Value) Value) WalkFault
+walked s history moves = walk (atomic_of s) (map entry_of history) (map move_of moves)
+
+-- the moves explain the history, by the specification
+abbrev pub IsExplanation : Spec → List held_moves.Move → List held.Entry → Type 0
+IsExplanation s moves history = Explains (atomic_of s) (map move_of moves) (map entry_of history)

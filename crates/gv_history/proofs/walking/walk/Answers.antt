@@ -2,7 +2,7 @@ use Rattle.std.proofs.Common.{◌≡◌, ◌+◌, ◌<◌, All, Err, ◌∙◌, 
 use Rattle.std.proofs.lemmas.List.Elements.{All-get_or}
 use Rattle.std.proofs.lemmas.Result.{IfErr-weaker}
 use Rattle.gv_spec.specs.Atomic.{atomic_of}
-use Rattle.gv_spec.specs.History.{entry_of, move_of, IsMoveOf}
+use Rattle.gv_spec.specs.History.{entry_of, move_of, walked, IsMoveOf}
 use Rattle.gv_spec.specs.Walks.{Missing, walk}
 use Rattle.gv_history.specs.Fault.{fields_at_end, IsFaultOf, IsUnexplained}
 use Rattle.gv_history.specs.declared.fault.WalkCause.TheVariants as cause
@@ -28,7 +28,7 @@ loop-i-preserved c =
     let i = c.loop-i.i in
     let items = c.deref-m-items.result.now in
     let m = c.m-item.result in
-    let all = walk (atomic_of s) (map entry_of c.args.history.now.items) (map move_of c.args.moves.now.items) in
+    let all = walked s c.args.history.now.items c.args.moves.now.items in
     let within : i < length items = omega arith in
     let moves = subst (λ xs. All (IsMoveOf s) xs) (sym c.deref-m-items.ensures.value) c.requires.moves in
     let of : IsMoveOf s m = subst (λ x. IsMoveOf s x) (sym c.m-item.is) (All-get_or (IsMoveOf s) items i m within moves) in
@@ -41,7 +41,7 @@ loop-i-preserved c =
 pub returns-then-is_empty-clause-passes : goal.returns-then-is_empty-clause-passes
 returns-then-is_empty-clause-passes c =
     let s = c.args.spec.now in
-    let all = walk (atomic_of s) (map entry_of c.args.history.now.items) (map move_of c.args.moves.now.items) in
+    let all = walked s c.args.history.now.items c.args.moves.now.items in
     ap fields_at_end (ended s c.loop-i.i (walk_in c.loop-i.walker) c.loop-i.left.now c.deref-m-items.result.now all c.loop-i.invariant.beside c.loop-i-test.false (none_left c.loop-i.left.now c.is_empty.result c.is_empty.ensures c.if-is_empty.true))
 
 pub returns-then-is_empty-clause-explains : goal.returns-then-is_empty-clause-explains
@@ -55,7 +55,7 @@ returns-then-is_empty-clause-explains c =
 pub returns-else-is_empty-clause-fault : goal.returns-else-is_empty-clause-fault
 returns-else-is_empty-clause-fault c =
     let s = c.args.spec.now in
-    let all = walk (atomic_of s) (map entry_of c.args.history.now.items) (map move_of c.args.moves.now.items) in
+    let all = walked s c.args.history.now.items c.args.moves.now.items in
     let told = missing s c.loop-i.i (walk_in c.loop-i.walker) c.loop-i.left.now c.deref-m-items.result.now all c.loop-i.invariant.beside c.loop-i-test.false (some_left c.loop-i.left.now c.is_empty.result c.is_empty.ensures c.if-is_empty.false) in
     let reached : c.loop-i.i ≡ c.len.result = omega (arith, ap length c.deref-m-items.ensures.value) in
     subst (λ k. all ≡ Err (record { index = k + 1; cause = Missing })) reached told
@@ -67,21 +67,18 @@ returns-in_err-step-clause-fault c =
     let items = c.deref-m-items.result.now in
     let m = c.m-item.result in
     let w = walk_in c.loop-i.walker in
-    let all = walk (atomic_of s) (map entry_of c.args.history.now.items) (map move_of c.args.moves.now.items) in
+    let all = walked s c.args.history.now.items c.args.moves.now.items in
     let within : i < length items = omega arith in
     handed_on (i + 1) (moved_beside (atomic_of s) w (map entry_of c.loop-i.left.now) (move_of m)) all c.from_residual-in_err-step.result c.in_err-step.field-0.0
     c.from_residual-in_err-step.ensures.1 c.in_err-step.ensures.step (λ cause e. refusal s i w c.loop-i.left.now items all c.loop-i.invariant.beside m cause within c.m-item.is e)
 
 pub returns-in_err-step-clause-unexplained : goal.returns-in_err-step-clause-unexplained
 returns-in_err-step-clause-unexplained c =
-    let atomic = atomic_of c.args.spec.now in
-    let history = map entry_of c.args.history.now.items in
-    let moves = map move_of c.args.moves.now.items in
-    IfErr-weaker c.from_residual-in_err-step.result (IsFaultOf (walk atomic history moves)) (IsUnexplained atomic moves history) (λ e h. unexplained atomic history moves e h) (returns-in_err-step-clause-fault c)
+    let s = c.args.spec.now in
+    let history = c.args.history.now.items in
+    let moves = c.args.moves.now.items in
+    IfErr-weaker c.from_residual-in_err-step.result (IsFaultOf (walked s history moves)) (IsUnexplained s moves history) (λ e h. unexplained s history moves e h) (returns-in_err-step-clause-fault c)
 
 pub returns-else-is_empty-clause-unexplained : goal.returns-else-is_empty-clause-unexplained
 returns-else-is_empty-clause-unexplained c =
-    let atomic = atomic_of c.args.spec.now in
-    let history = map entry_of c.args.history.now.items in
-    let moves = map move_of c.args.moves.now.items in
-    unexplained atomic history moves (fault.At (c.len.result + 1) cause.Missing) (returns-else-is_empty-clause-fault c)
+    unexplained c.args.spec.now c.args.history.now.items c.args.moves.now.items (fault.At (c.len.result + 1) cause.Missing) (returns-else-is_empty-clause-fault c)
