@@ -3,7 +3,7 @@
 mod small_forms;
 
 use crate::run;
-use gv_base::{Held, List, MemFiles, MemSink, Name, SureFiles, SureSink};
+use gv_base::{Held, List, MemFiles, MemSink, Name, NoMemory, SureFiles, SureSink};
 use std::alloc::Global;
 use std::process::Abort;
 use std::test::Fail;
@@ -28,7 +28,7 @@ const USAGE: &[u8] =
 
 const ACCEPTED: &[u8] = b"accepted for runs without crash\n";
 
-fn held(alloc: Global, name: &[u8], bytes: &[u8]) -> Result<Held, Fail> {
+fn held(alloc: Global, name: &[u8], bytes: &[u8]) -> Result<Held, NoMemory> {
     Ok(Held {
         name: Name::from_slice(alloc, name)?,
         bytes: Name::from_slice(alloc, bytes)?,
@@ -36,7 +36,12 @@ fn held(alloc: Global, name: &[u8], bytes: &[u8]) -> Result<Held, Fail> {
 }
 
 // Three files under the names p, s and t.
-fn files_of(alloc: Global, package: &[u8], spec: &[u8], script: &[u8]) -> Result<List<Held>, Fail> {
+fn files_of(
+    alloc: Global,
+    package: &[u8],
+    spec: &[u8],
+    script: &[u8],
+) -> Result<List<Held>, NoMemory> {
     let mut all = List::new(alloc);
     all.push(held(alloc, b"p", package)?)?;
     all.push(held(alloc, b"s", spec)?)?;
@@ -44,7 +49,7 @@ fn files_of(alloc: Global, package: &[u8], spec: &[u8], script: &[u8]) -> Result
     Ok(all)
 }
 
-fn words_of(alloc: Global, all: &[&str]) -> Result<Vec<String>, Fail> {
+fn words_of(alloc: Global, all: &[&str]) -> Result<Vec<String>, NoMemory> {
     let mut words = Vec::new(alloc);
     for word in all {
         words.push(String::from_str(alloc, *word)?)?;
@@ -52,7 +57,7 @@ fn words_of(alloc: Global, all: &[&str]) -> Result<Vec<String>, Fail> {
     Ok(words)
 }
 
-fn joined(alloc: Global, parts: &[&[u8]]) -> Result<Vec<u8>, Fail> {
+fn joined(alloc: Global, parts: &[&[u8]]) -> Result<Vec<u8>, NoMemory> {
     let mut text = Vec::new(alloc);
     for part in parts {
         text.extend_from_slice(*part)?;
