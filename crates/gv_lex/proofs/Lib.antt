@@ -1,3 +1,4 @@
+pub mod Identifiers
 pub mod OwnFronts
 pub mod OwnPieces
 pub mod Values

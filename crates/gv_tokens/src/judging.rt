@@ -7,11 +7,14 @@ ghost use Rattle.gv_tokens.specs.Judging as spec;
 use gv_base::{Code, NoMemory, Refusal, Token, place_of};
 use std::alloc::{AllocError, Global};
 use std::str;
+use thiserror::Error;
 
 /// Why the pieces of a text give no tokens: memory was refused, or a piece is wrong at a byte. This project's own.
-#[derive(Drop)]
+#[derive(Debug, Drop, Error)]
 pub enum Stop {
+    #[error("out of memory")]
     NoMemory,
+    #[error("a piece is wrong")]
     At(u32, Code),
 }
 
