@@ -1,6 +1,6 @@
 //! The table of calls.
 
-ghost use Rattle.std.specs.Prelude.{◌≡◌, ◌≢◌, ◌↔◌, ◌+◌, ◌<◌, ◌^◌, ℕ, IsTrue, OnOk};
+ghost use Rattle.std.specs.Prelude.{◌≡◌, ◌≢◌, ◌↔◌, ◌+◌, ◌<◌, ◌^◌, IsTrue, OnOk};
 ghost use Rattle.std.specs.Option.{option_copied};
 ghost use Rattle.gv_history.specs.Seen.{AreSeenBy, standing_of};
 ghost use Rattle.gv_spec.specs.Walks.{NeverCalled, entered, dropped};

@@ -4,7 +4,7 @@ ghost use Rattle.std.specs.Prelude.{◌≡◌, ◌≤◌, ◌<◌, ◌+◌, ◌^
 ghost use Rattle.gv_terms.specs.declared.spec.Spec.{Spec as Written};
 ghost use Rattle.gv_terms.specs.Values.{value_eq};
 ghost use Rattle.gv_spec.specs.Atomic.{atomic_of};
-ghost use Rattle.gv_spec.specs.History.{entry_of, move_of, IsMoveOf};
+ghost use Rattle.gv_spec.specs.History.{entry_of, move_of};
 ghost use Rattle.gv_spec.specs.Move as move;
 ghost use Rattle.gv_spec.specs.Entry as told;
 ghost use Rattle.gv_spec.specs.Walks.{Acted, Answered, entered, first_walk, walk_called, walk_acted, walk_answered, walk_moved};
