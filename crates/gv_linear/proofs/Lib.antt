@@ -1,0 +1,6 @@
+pub mod IntegerLaws
+pub mod RowLemmas
+pub mod SoundLemmas
+pub mod AnswerLemmas
+pub mod ColumnLemmas
+pub mod CheckLemmas
