@@ -1,7 +1,7 @@
 //! The adder: one operation, which replies the sum.
 
 use super::{allows, constant, operation, params, replied, term, variable};
-use crate::meaning::init;
+use crate::meaning::{init, takes};
 use gv_base::{List, NoMemory};
 use gv_terms::{MakeFault, Op, Operator, Sort, Spec, State, TermStore, Value, make_spec};
 use std::alloc::Global;
@@ -73,4 +73,24 @@ fn adder_may_never_be_called(rt: HostRuntime) -> Result<(), Fail> {
     let alloc = rt.alloc();
     let spec = adder(alloc, Operator::False)?;
     Ok(check_never(&rt, alloc, &spec)?)
+}
+
+// Two words are arguments of the operation with number 0, and of no other.
+fn check_takes(rt: &impl Abort, spec: &Spec) {
+    let words = [Value::Word(1), Value::Word(2)];
+    assert!(rt; takes(spec, 0, &words));
+    assert!(rt; !takes(spec, 1, &words));
+    assert!(rt; !takes(spec, 0, &words[..1]));
+    assert!(rt; !takes(spec, 0, &[]));
+    let mixed = [Value::Word(1), Value::Bool(true)];
+    assert!(rt; !takes(spec, 0, &mixed));
+    let three = [Value::Word(1), Value::Word(2), Value::Word(3)];
+    assert!(rt; !takes(spec, 0, &three));
+}
+
+#[test]
+fn adder_takes_two_words(rt: HostRuntime) -> Result<(), Fail> {
+    let spec = adder(rt.alloc(), Operator::True)?;
+    check_takes(&rt, &spec);
+    Ok(())
 }
