@@ -5,6 +5,8 @@ mod answer;
 mod check;
 mod columns;
 mod row;
+#[cfg(test)]
+mod tests;
 
 pub use answer::Linear;
 pub use check::check_linear;
