@@ -53,10 +53,11 @@ fn sums_tell(rows: &[Row], factors: &[i128], unknowns: u32) -> Linear
 
 /// Whether the sum of the rows, each times its factor, shows that no whole numbers meet all rows.
 ///
-/// A factor below 0 may stand at a row that is `same` alone. The columns of the unknowns are summed
-/// first, in order, then the constants as the column `unknowns`; in each the rows come in order. All
-/// products and partial sums are to fit 128 bits. `Yes` where each column of an unknown sums to 0 and
-/// the constants to less than 0. It takes no memory. This project's own.
+/// There are as many factors as rows, fewer than 2^32, and in each row the unknowns ascend and are
+/// below `unknowns`. A factor below 0 may stand at a row that is `same` alone. The columns of the
+/// unknowns are summed first, in order, then the constants as the column `unknowns`; in each the rows
+/// come in order. All products and partial sums are to fit 128 bits. `Yes` where each column of an
+/// unknown sums to 0 and the constants to less than 0. It takes no memory. This project's own.
 pub fn check_linear(rows: &[Row], factors: &[i128], unknowns: u32) -> Linear
     requires lengths { length rows.now ≡ length factors.now }
     requires few { length rows.now < 2 ^ 32 }
