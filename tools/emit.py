@@ -220,7 +220,7 @@ def acts_source(grammar):
     out += "/// What a stretch of tokens was read as.\n#[derive(Drop)]\npub enum Part {\n"
     out += "".join(f"    {kind}({rust}),\n" for kind, rust in grammar.kinds.items()) + "}\n\n"
     out += constants([(kind_constant(kind), at) for at, kind in enumerate(grammar.kinds)], "u8")
-    taken = {kind for act in grammar.acts for _, kind in act.takes}
+    taken = {kind for act in grammar.acts for _, kind in act.takes} | {grammar.whole}
     out += "".join(pop_source(kind, rust) for kind, rust in grammar.kinds.items() if kind in taken)
     out += "".join(make_source(act) for act in grammar.acts)
     return out + dispatch_source(grammar) + build_source(grammar)

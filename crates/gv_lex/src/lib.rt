@@ -19,4 +19,5 @@ mod signs;
 mod tests;
 
 pub use gv_base::{Kind, Token, place_of};
+pub use numbers::value_of;
 pub use reading::lex;

@@ -40,9 +40,9 @@ fn all_digits(bytes: &[u8], radix: u32) -> bool
     bytes.iter().all(|byte| is_digit(*byte, radix))
 }
 
-// The value of digits, or `None` where it is above the largest number.
+/// The value of digits, or `None` where it is above the largest number, 2^127.
 #[tactic(auto, unfolding(crate::specs::Numbers::value_of))]
-fn value_of(digits: &[u8], radix: u32) -> Option<u128>
+pub fn value_of(digits: &[u8], radix: u32) -> Option<u128>
     requires least { 2 ≤ radix }
     requires most { radix ≤ 36 }
     ensures { result ≡ spec.fitting (spec.value_of radix digits.now) }

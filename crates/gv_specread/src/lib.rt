@@ -1,12 +1,20 @@
 //! Reads specifications: the grammar's stage.
 //!
 //! `tree` and `term` have what a text is read as: a tree of spans and places, with no names resolved and no sorts tested.
+//! `seen` gives each token its class, and `reading` has the reader.
+//! `spec.grammar` is the grammar that the tables and acts are made from (docs/grammar.md).
 #![tactic(auto)]
 
+mod making;
+mod reading;
+mod seen;
+pub mod spec_acts;
+pub mod spec_table;
 mod term;
 mod token;
 mod tree;
 
+pub use reading::{MAX_LEVELS, parse_spec};
 pub use term::{PlacedTerm, Span, TermNode};
 pub use token::SpecToken;
 pub use tree::{
