@@ -11,6 +11,8 @@ mod seen;
 pub mod spec_acts;
 pub mod spec_table;
 mod term;
+#[cfg(test)]
+mod tests;
 mod token;
 mod tree;
 
