@@ -3,3 +3,7 @@ pub mod Forward
 pub mod Backward
 pub mod Top
 pub mod Refusing
+pub mod TermPredictive
+pub mod ForwardTerms
+pub mod BackwardTerms
+pub mod TopTerms

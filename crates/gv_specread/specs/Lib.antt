@@ -4,3 +4,5 @@ pub mod SpecActs
 pub mod Language
 pub mod Seen
 pub mod Reading
+pub mod TermTable
+pub mod TermActs

@@ -2,7 +2,8 @@
 //!
 //! `tree` and `term` have what a text is read as: a tree of spans and places, with no names resolved and no sorts tested.
 //! `seen` gives each token its class, and `reading` has the reader.
-//! `spec.grammar` is the grammar that the tables and acts are made from (docs/grammar.md).
+//! `spec.grammar` is the grammar that the tables and acts are made from (docs/grammar.md), and `term.grammar` that of terms
+//! by themselves.
 #![tactic(auto)]
 
 mod making;
@@ -11,6 +12,9 @@ mod seen;
 pub mod spec_acts;
 pub mod spec_table;
 mod term;
+pub mod term_acts;
+mod term_reading;
+pub mod term_table;
 #[cfg(test)]
 mod tests;
 mod token;
@@ -18,6 +22,7 @@ mod tree;
 
 pub use reading::{MAX_LEVELS, parse_spec};
 pub use term::{PlacedTerm, Span, TermNode};
+pub use term_reading::{TermFront, read_term};
 pub use token::SpecToken;
 pub use tree::{
     AssignTree, BodyTree, DisksTree, FieldTree, OpTree, ParamTree, PlacedNumber, PlacedSort,
