@@ -7,3 +7,7 @@ pub mod TermPredictive
 pub mod ForwardTerms
 pub mod BackwardTerms
 pub mod TopTerms
+pub mod Lookups
+pub mod Trees
+pub mod Faults
+pub mod Steps

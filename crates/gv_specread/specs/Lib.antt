@@ -6,3 +6,5 @@ pub mod Seen
 pub mod Reading
 pub mod TermTable
 pub mod TermActs
+pub mod Scopes
+pub mod Resolving

@@ -1,4 +1,4 @@
-//! Reads specifications: the grammar's stage.
+//! Reads specifications: the grammar's stage, and terms of a store from what it reads.
 //!
 //! `tree` and `term` have what a text is read as: a tree of spans and places, with no names resolved and no sorts tested.
 //! `seen` gives each token its class, and `reading` has the reader.
@@ -11,6 +11,10 @@ mod reading;
 mod seen;
 pub mod spec_acts;
 pub mod spec_table;
+//! `resolving` gives terms of a store for its terms, or their first fault.
+mod fault;
+mod resolving;
+mod scope;
 mod term;
 pub mod term_acts;
 mod term_reading;
@@ -21,6 +25,9 @@ mod token;
 mod tree;
 
 pub use reading::{MAX_LEVELS, parse_spec};
+pub use fault::{Fault, TermFault};
+pub use resolving::make_term;
+pub use scope::Scope;
 pub use term::{PlacedTerm, Span, TermNode};
 pub use term_reading::{TermFront, read_term};
 pub use token::SpecToken;
