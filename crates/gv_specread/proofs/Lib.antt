@@ -11,3 +11,8 @@ pub mod Lookups
 pub mod Trees
 pub mod Faults
 pub mod Steps
+pub mod ScopeLookups
+pub mod ResolvedTrees
+pub mod TermFaults
+pub mod TermParts
+pub mod WholeTerms

@@ -10,9 +10,9 @@ use Rattle.gv_terms.specs.declared.tree.TermTree.{TermTree}
 use Rattle.gv_terms.specs.declared.tree.TermTree.TheVariants as tree
 use Rattle.gv_terms.specs.Meaning.{part_of}
 use Rattle.gv_terms.specs.Trees.{sort_of}
-use Rattle.gv_specread.specs.declared.fault.Fault.{Fault}
-use Rattle.gv_specread.specs.declared.fault.TermFault.{TermFault}
-use Rattle.gv_specread.specs.declared.fault.TermFault.TheVariants as answer
+use Rattle.gv_specread.specs.declared.term_fault.Fault.{Fault}
+use Rattle.gv_specread.specs.declared.term_fault.TermFault.{TermFault}
+use Rattle.gv_specread.specs.declared.term_fault.TermFault.TheVariants as answer
 use Rattle.gv_specread.specs.declared.term.Span.{Span}
 use Rattle.gv_specread.specs.declared.term.PlacedTerm.{PlacedTerm}
 use Rattle.gv_specread.specs.declared.term.TermNode.{TermNode, fold-TermNode}

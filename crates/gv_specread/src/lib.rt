@@ -21,8 +21,12 @@ mod term_reading;
 pub mod term_table;
 #[cfg(test)]
 mod tests;
+//! `resolving` and `whole_term` give terms of a store for its terms, or their first fault.
+mod term_fault;
+mod term_tests;
 mod token;
 mod tree;
+mod whole_term;
 
 pub use reading::{MAX_LEVELS, parse_spec};
 pub use fault::{Fault, TermFault};
@@ -30,8 +34,10 @@ pub use resolving::make_term;
 pub use scope::Scope;
 pub use term::{PlacedTerm, Span, TermNode};
 pub use term_reading::{TermFront, read_term};
+pub use term_fault::{Fault, TermFault};
 pub use token::SpecToken;
 pub use tree::{
     AssignTree, BodyTree, DisksTree, FieldTree, OpTree, ParamTree, PlacedNumber, PlacedSort,
     ReplyTree, SpecTree,
 };
+pub use whole_term::{make_plain_term, make_term_of};

@@ -7,12 +7,12 @@ ghost use Rattle.gv_terms.specs.Trees.{sort_of};
 ghost use Rattle.gv_terms.specs.Typed.{is_closed};
 ghost use Rattle.gv_terms.specs.declared.tree.TermTree.TheVariants as tree;
 ghost use Rattle.gv_specread.specs.Resolving.{name_of, fault, resolved, HasFault, IsCause};
-ghost use Rattle.gv_specread.specs.declared.fault.Fault.{Fault as Faulty};
+ghost use Rattle.gv_specread.specs.declared.term_fault.Fault.{Fault as Faulty};
 ghost use Rattle.gv_specread.specs.declared.term.TermNode.TheVariants as node;
 
-use crate::fault::{Fault, TermFault, first_with};
 use crate::scope::Scope;
 use crate::term::{Span, TermNode};
+use crate::term_fault::{Fault, TermFault, first_with};
 use gv_base::{Code, List, Name};
 use gv_terms::{Head, MakeFault, Node, Operator, Term, TermStore};
 use std::alloc::Global;

@@ -1,6 +1,6 @@
 use Rattle.std.proofs.Common.{take}
 use Rattle.gv_terms.specs.Store.{trees_at, AreIn, Grows}
-use Rattle.gv_specread.proofs.Faults.{Stand}
+use Rattle.gv_specread.proofs.TermFaults.{Stand}
 use Rattle.gv_specread.proofs.resolving.+make_term.Given as goal
 
 abbrev pub invariant-loop-part : goal.invariant-loop-part

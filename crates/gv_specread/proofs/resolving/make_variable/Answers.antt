@@ -2,8 +2,8 @@ use Rattle.std.proofs.Common.{◌≡◌, None, Some, option_map, ap, sym, ◌∙
 use Rattle.gv_terms.specs.declared.tree.TermTree.TheVariants as tree
 use Rattle.gv_specread.specs.Scopes.{sort_under}
 use Rattle.gv_specread.specs.Resolving.{name_of}
-use Rattle.gv_specread.proofs.Trees.{resolved_variable}
-use Rattle.gv_specread.proofs.Faults.{first_unknown}
+use Rattle.gv_specread.proofs.ResolvedTrees.{resolved_variable}
+use Rattle.gv_specread.proofs.TermFaults.{first_unknown}
 use Rattle.gv_specread.proofs.resolving.make_variable.Goals as goal
 
 pub returns-in_default-clause-cause : goal.returns-in_default-clause-cause

@@ -4,7 +4,7 @@ use Rattle.std.specs.Map.{lookup}
 use Rattle.std.proofs.lemmas.List.{map-append}
 use Rattle.indexmap.proofs.CallerLemmas.{insert_entry-new}
 use Rattle.gv_specread.specs.Scopes.{vars_of, var_of}
-use Rattle.gv_specread.proofs.Lookups.{is_taken, is_free, none_there}
+use Rattle.gv_specread.proofs.ScopeLookups.{is_taken, is_free, none_there}
 use Rattle.gv_specread.proofs.scope.Scope.declare.Goals as goal
 
 pub returns-then-contains_key-clause-told : goal.returns-then-contains_key-clause-told

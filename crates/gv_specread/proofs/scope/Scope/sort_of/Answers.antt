@@ -1,6 +1,6 @@
 use Rattle.std.proofs.Common.{ap, ◌∙◌}
 use Rattle.gv_specread.specs.Scopes.{sort_under}
-use Rattle.gv_specread.proofs.Lookups.{looked_up}
+use Rattle.gv_specread.proofs.ScopeLookups.{looked_up}
 use Rattle.gv_specread.proofs.scope.Scope.sort_of.Goals as goal
 
 pub returns : goal.returns

@@ -19,7 +19,7 @@ use Rattle.gv_specread.specs.declared.term.TermNode.TheFolds.{map-TermNode, ind-
 use Rattle.gv_specread.specs.declared.term.TermNode.TheViews.{roll-TermNode}
 use Rattle.gv_specread.specs.Scopes.{sort_under}
 use Rattle.gv_specread.specs.Resolving.{name_of, variable_named, all_there, if_sorted, resolved}
-use Rattle.gv_specread.proofs.Lookups.{under_among}
+use Rattle.gv_specread.proofs.ScopeLookups.{under_among}
 
 pub resolved_variable : (text : List ℕ) (vars : List Var) (s : Span) → resolved text vars (node.Variable s) ≡ variable_named vars (name_of text s)
 unfolding resolved

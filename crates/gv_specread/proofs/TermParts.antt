@@ -13,13 +13,13 @@ use Rattle.gv_terms.specs.Store.{tree_at, trees_at, AreIn, Grows}
 use Rattle.gv_terms.specs.Trees.{sort_of}
 use Rattle.gv_terms.specs.Typed.{is_closed}
 use Rattle.gv_terms.proofs.Grown.{trees_kept}
-use Rattle.gv_specread.specs.declared.fault.Fault.{Fault}
-use Rattle.gv_specread.specs.declared.fault.TermFault.{TermFault}
+use Rattle.gv_specread.specs.declared.term_fault.Fault.{Fault}
+use Rattle.gv_specread.specs.declared.term_fault.TermFault.{TermFault}
 use Rattle.gv_specread.specs.declared.term.TermNode.{TermNode}
 use Rattle.gv_specread.specs.declared.term.TermNode.TheVariants as node
 use Rattle.gv_specread.specs.Resolving.{resolved, fault, HasFault, IsFirst, IsCause}
-use Rattle.gv_specread.proofs.Trees.{resolved_fit, sorted_node}
-use Rattle.gv_specread.proofs.Faults.{Stand, FaultsOf, IsFirstWith, more_good, more_faulty, faultless, own_cause, first_of_parts}
+use Rattle.gv_specread.proofs.ResolvedTrees.{resolved_fit, sorted_node}
+use Rattle.gv_specread.proofs.TermFaults.{Stand, FaultsOf, IsFirstWith, more_good, more_faulty, faultless, own_cause, first_of_parts}
 
 pub grows_on : (a b c : List TermTree) → Grows a b → Grows b c → Grows a c
 grows_on a b c g h = (g.0 ++ h.0, h.1 ∙ ap (λ ts. ts ++ h.0) g.1 ∙ append_assoc a g.0 h.0)

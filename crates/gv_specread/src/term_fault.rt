@@ -1,7 +1,7 @@
 //! Faults of texts that the grammar allows, and why there is no term.
 
 ghost use Rattle.std.specs.Prelude.{◌≡◌, ◌⊎◌, MatchOption};
-ghost use Rattle.gv_specread.specs.declared.fault.TermFault.TheVariants as answer;
+ghost use Rattle.gv_specread.specs.declared.term_fault.TermFault.TheVariants as answer;
 ghost use Rattle.gv_specread.specs.Resolving.{IsNotAfter};
 
 use gv_base::{Code, NoMemory};

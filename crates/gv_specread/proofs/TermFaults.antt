@@ -11,16 +11,16 @@ use Rattle.gv_terms.specs.declared.operator.Operator.{Operator}
 use Rattle.gv_terms.specs.declared.tree.TermTree.{TermTree}
 use Rattle.gv_terms.specs.declared.tree.TermTree.TheVariants as tree
 use Rattle.gv_terms.specs.Trees.{sort_of}
-use Rattle.gv_specread.specs.declared.fault.Fault.{Fault}
-use Rattle.gv_specread.specs.declared.fault.TermFault.{TermFault}
-use Rattle.gv_specread.specs.declared.fault.TermFault.TheVariants as answer
+use Rattle.gv_specread.specs.declared.term_fault.Fault.{Fault}
+use Rattle.gv_specread.specs.declared.term_fault.TermFault.{TermFault}
+use Rattle.gv_specread.specs.declared.term_fault.TermFault.TheVariants as answer
 use Rattle.gv_specread.specs.declared.term.Span.{Span}
 use Rattle.gv_specread.specs.declared.term.TermNode.{TermNode, the_lemmas, out-TermNode}
 use Rattle.gv_specread.specs.declared.term.TermNode.TheVariants as node
 use Rattle.gv_specread.specs.declared.term.TermNode.TheOpen.{Variable, Apply}
 use Rattle.gv_specread.specs.Scopes.{sort_under}
 use Rattle.gv_specread.specs.Resolving.{name_of, variable_named, all_there, if_sorted, resolved, fault, HasFault, undeclared, wrong_type, of_part, IsNotAfter, IsFirst, IsCause}
-use Rattle.gv_specread.proofs.Trees.{resolved_variable, resolved_apply, unsorted_node, missing, all_some}
+use Rattle.gv_specread.proofs.ResolvedTrees.{resolved_variable, resolved_apply, unsorted_node, missing, all_some}
 
 -- Nodes.
 
