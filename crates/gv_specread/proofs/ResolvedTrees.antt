@@ -1,5 +1,5 @@
 -- The tree that a node stands for, by those of its parts.
-use Rattle.std.proofs.Common.{◌≡◌, ℕ, zero, suc, ◌<◌, Bool, true, false, cond, List, [], ◌∷◌, Option, Some, None, map, option_map, option_and_then, is_some, IsSome, get_or, length, refl, sym, ap, ◌∙◌, subst, arith, rules}
+use Rattle.std.proofs.Common.{◌≡◌, ℕ, zero, suc, ◌<◌, true, cond, List, [], ◌∷◌, Option, Some, None, map, option_map, option_and_then, is_some, IsSome, get_or, length, refl, sym, ap, ◌∙◌, subst, arith, rules}
 use Rattle.std.specs.Prelude.{Contains}
 use Rattle.std.specs.List.{list_all}
 use Rattle.gv_terms.specs.declared.sort.Sort.{Sort}
@@ -8,7 +8,7 @@ use Rattle.gv_terms.specs.declared.operator.Operator.{Operator}
 use Rattle.gv_terms.specs.declared.tree.TermTree.{TermTree}
 use Rattle.gv_terms.specs.declared.tree.TermTree.TheVariants as tree
 use Rattle.gv_terms.specs.Trees.{sort_of}
-use Rattle.gv_terms.specs.Typed.{is_closed, is_among}
+use Rattle.gv_terms.specs.Typed.{is_closed}
 use Rattle.gv_terms.proofs.Closed.{closed_variable, closed_apply}
 use Rattle.gv_terms.proofs.NodeSorts.{sort_variable}
 use Rattle.gv_specread.specs.declared.term.Span.{Span}

@@ -1,5 +1,5 @@
 -- Look-ups of names.
-use Rattle.std.proofs.Common.{◌≡◌, ℕ, Bool, true, false, ◌&&◌, cond, List, [], ◌∷◌, ◌++◌, take, Option, Some, None, map, option_map, is_some, is_none, refl, sym, ap, ◌∙◌}
+use Rattle.std.proofs.Common.{◌≡◌, ℕ, Bool, true, false, ◌&&◌, cond, List, [], ◌∷◌, Option, Some, None, option_map, is_some, is_none, refl, sym, ap, ◌∙◌}
 use Rattle.std.specs.List.{find}
 use Rattle.std.specs.Map.{lookup}
 use Rattle.std.specs.Str.{bytes_eq}
@@ -7,7 +7,7 @@ use Rattle.std.proofs.lemmas.Slice.Eq.{bytes_eq-Decides}
 use Rattle.gv_terms.specs.declared.sort.Sort.{Sort}
 use Rattle.gv_terms.specs.declared.sort.Sort.TheVariants as sort
 use Rattle.gv_terms.specs.declared.spec.Var.{Var}
-use Rattle.gv_terms.specs.Sorts.{sort_eq, sort_number}
+use Rattle.gv_terms.specs.Sorts.{sort_eq}
 use Rattle.gv_terms.specs.Typed.{is_among}
 use Rattle.gv_specread.specs.Scopes.{vars_of, var_of, sort_under}
 

@@ -1,10 +1,9 @@
 -- The faults of a node, and the first of them.
-use Rattle.std.proofs.Common.{◌≡◌, ℕ, ◌+◌, ◌<◌, ◌≤◌, ◌⊎◌, inl, inr, ⊎_elim, List, [], ◌∷◌, ◌++◌, Option, Some, None, option_and_then, option_map, map, take, get_or, length, refl, sym, ap, ◌∙◌, subst, arith, rules, MatchOption}
+use Rattle.std.proofs.Common.{◌≡◌, ℕ, ◌≤◌, ◌⊎◌, inl, inr, ⊎_elim, List, [], ◌∷◌, ◌++◌, Option, Some, None, option_and_then, option_map, map, refl, sym, ap, ◌∙◌, subst, arith, rules, MatchOption}
 use Rattle.std.specs.Prelude.{Contains}
 use Rattle.std.proofs.lemmas.List.{map-append}
 use Rattle.std.proofs.lemmas.List.Elements.{Contains-append_left, Contains-push, Contains-push_cases}
 use Rattle.gv_base.specs.Codes.{code_number}
-use Rattle.gv_base.specs.declared.answers.Code.{Code}
 use Rattle.gv_base.specs.declared.answers.Code.TheVariants as code
 use Rattle.gv_terms.specs.declared.spec.Var.{Var}
 use Rattle.gv_terms.specs.declared.operator.Operator.{Operator}
@@ -19,7 +18,7 @@ use Rattle.gv_specread.specs.declared.term.TermNode.{TermNode, the_lemmas, out-T
 use Rattle.gv_specread.specs.declared.term.TermNode.TheVariants as node
 use Rattle.gv_specread.specs.declared.term.TermNode.TheOpen.{Variable, Apply}
 use Rattle.gv_specread.specs.Scopes.{sort_under}
-use Rattle.gv_specread.specs.Resolving.{name_of, variable_named, all_there, if_sorted, resolved, fault, HasFault, undeclared, wrong_type, of_part, IsNotAfter, IsFirst, IsCause}
+use Rattle.gv_specread.specs.Resolving.{name_of, all_there, if_sorted, resolved, fault, HasFault, undeclared, wrong_type, of_part, IsNotAfter, IsFirst, IsCause}
 use Rattle.gv_specread.proofs.ResolvedTrees.{resolved_variable, resolved_apply, unsorted_node, missing, all_some}
 
 -- Nodes.

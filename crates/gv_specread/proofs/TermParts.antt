@@ -1,6 +1,5 @@
 -- How far the parts of a node are read, while the store grows.
-use Rattle.std.proofs.Common.{◌≡◌, ℕ, ◌+◌, ◌<◌, ◌≤◌, List, [], ◌∷◌, ◌++◌, Bool, true, Option, Some, None, Result, Ok, Err, IfOk, IfErr, IsSome, map, take, get_or, length, refl, sym, ap, ◌∙◌, subst, arith, length-append, append_assoc}
-use Rattle.std.specs.List.{All}
+use Rattle.std.proofs.Common.{◌≡◌, ℕ, ◌+◌, ◌<◌, List, [], ◌∷◌, ◌++◌, true, Option, Some, None, Result, Ok, Err, IfOk, IfErr, IsSome, map, take, get_or, length, sym, ap, ◌∙◌, subst, arith, length-append, append_assoc}
 use Rattle.std.proofs.Math.Seq.{take-length}
 use Rattle.std.proofs.lemmas.List.{map-append, take_more}
 use Rattle.gv_base.specs.declared.answers.Code.TheVariants as code
@@ -19,7 +18,7 @@ use Rattle.gv_specread.specs.declared.term.TermNode.{TermNode}
 use Rattle.gv_specread.specs.declared.term.TermNode.TheVariants as node
 use Rattle.gv_specread.specs.Resolving.{resolved, fault, HasFault, IsFirst, IsCause}
 use Rattle.gv_specread.proofs.ResolvedTrees.{resolved_fit, sorted_node}
-use Rattle.gv_specread.proofs.TermFaults.{Stand, FaultsOf, IsFirstWith, more_good, more_faulty, faultless, own_cause, first_of_parts}
+use Rattle.gv_specread.proofs.TermFaults.{Stand, FaultsOf, IsFirstWith, more_good, more_faulty, faultless, own_cause}
 
 pub grows_on : (a b c : List TermTree) → Grows a b → Grows b c → Grows a c
 grows_on a b c g h = (g.0 ++ h.0, h.1 ∙ ap (λ ts. ts ++ h.0) g.1 ∙ append_assoc a g.0 h.0)

@@ -1,5 +1,5 @@
 -- Which tree a node of a term stands for among variables, and which faults it has.
-use Rattle.std.specs.Prelude.{◌≡◌, ℕ, ◌<◌, ◌≤◌, Bool, true, false, List, [], ◌∷◌, Option, Some, None, map, option_map, option_and_then, is_some, if◌then◌else◌, Contains}
+use Rattle.std.specs.Prelude.{◌≡◌, ℕ, ◌≤◌, Bool, false, List, [], ◌∷◌, Option, Some, None, map, option_map, option_and_then, is_some, if◌then◌else◌, Contains}
 use Rattle.gv_base.specs.Codes.{code_number}
 use Rattle.gv_base.specs.declared.answers.Code.{Code}
 use Rattle.gv_base.specs.declared.answers.Code.TheVariants as code

@@ -1,5 +1,5 @@
 -- Names with their sorts.
-use Rattle.std.specs.Prelude.{◌≡◌, ℕ, List, Option, map, option_map, is_some}
+use Rattle.std.specs.Prelude.{ℕ, List, Option, map, option_map}
 use Rattle.std.specs.List.{find}
 use Rattle.std.specs.Str.{bytes_eq}
 use Rattle.gv_terms.specs.declared.sort.Sort.{Sort}

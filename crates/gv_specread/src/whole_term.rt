@@ -40,6 +40,7 @@ pub fn make_term_of(
     sort: Sort,
     term: &PlacedTerm,
 ) -> Result<Term, TermFault>
+    ensures within { IfOk result (λ t. t.id < length store.new) }
     ensures typed { IfOk result (λ t. is_term store.new scope.now sort t ≡ true) }
     ensures tree { IfOk result (λ t. resolved text.now scope.now term.now.node ≡ Some (tree_at store.new t.id)) }
     ensures faultless { IfOk result (λ t. (f : Fault) → HasTermFault text.now scope.now (is_sort sort) term.now f → ⊥) }
@@ -65,6 +66,7 @@ pub fn make_plain_term(
     scope: &Scope,
     term: &PlacedTerm,
 ) -> Result<Term, TermFault>
+    ensures within { IfOk result (λ t. t.id < length store.new) }
     ensures typed { IfOk result (λ t. is_reply store.new scope.now (Some t) ≡ true) }
     ensures tree { IfOk result (λ t. resolved text.now scope.now term.now.node ≡ Some (tree_at store.new t.id)) }
     ensures faultless { IfOk result (λ t. (f : Fault) → HasTermFault text.now scope.now is_some_plain term.now f → ⊥) }

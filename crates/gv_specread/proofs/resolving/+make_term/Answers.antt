@@ -1,9 +1,8 @@
-use Rattle.std.proofs.Common.{◌≡◌, ◌++◌, [], ◌∷◌, Some, IfOk, length, map, take, sym, ap, ◌∙◌, subst, arith}
-use Rattle.gv_terms.specs.Store.{tree_at, trees_at, AreIn, Grows}
+use Rattle.std.proofs.Common.{◌≡◌, Some, IfOk, length, map, sym, ap, ◌∙◌, subst, arith}
+use Rattle.gv_terms.specs.Store.{trees_at, AreIn}
 use Rattle.gv_terms.proofs.Grown.{one_more_in}
 use Rattle.gv_specread.specs.Resolving.{resolved, fault, HasFault, IsFirst, IsCause}
 use Rattle.gv_specread.specs.declared.term.TermNode.TheVariants as node
-use Rattle.gv_specread.specs.declared.term_fault.TermFault.TheVariants as answer
 use Rattle.gv_specread.specs.declared.term_fault.Fault.{Fault}
 use Rattle.gv_specread.proofs.TermFaults.{Stand, FaultsOf, first_of_parts}
 use Rattle.gv_specread.proofs.TermParts.{grows_on, still_in, good_part, faulty_part, at_end, ok_sorted, ok_closed, ok_faultless, ok_tree, err_own}
