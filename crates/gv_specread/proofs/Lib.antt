@@ -7,10 +7,6 @@ pub mod TermPredictive
 pub mod ForwardTerms
 pub mod BackwardTerms
 pub mod TopTerms
-pub mod Lookups
-pub mod Trees
-pub mod Faults
-pub mod Steps
 pub mod ScopeLookups
 pub mod ResolvedTrees
 pub mod TermFaults
