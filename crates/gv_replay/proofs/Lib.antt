@@ -1,0 +1,5 @@
+pub mod AnswerLemmas
+pub mod NumberLemmas
+pub mod OfSpecLemmas
+pub mod ProgressLemmas
+pub mod SpanLemmas

@@ -1,0 +1,14 @@
+pub mod Lines
+pub mod Literals
+pub mod Meaning
+pub mod Numbers
+pub mod OperationTable
+pub mod Operations
+pub mod Parts
+pub mod Progress
+pub mod Reading
+pub mod Results
+pub mod Sights
+pub mod Stops
+pub mod Told
+pub mod What
