@@ -1,5 +1,8 @@
 pub mod AnswerLemmas
+pub mod BeginningLemmas
 pub mod NumberLemmas
 pub mod OfSpecLemmas
 pub mod ProgressLemmas
+pub mod ReadLemmas
 pub mod SpanLemmas
+pub mod SpelledLemmas

@@ -1,3 +1,4 @@
+pub mod Beginnings
 pub mod Lines
 pub mod Literals
 pub mod Meaning
@@ -9,6 +10,7 @@ pub mod Progress
 pub mod Reading
 pub mod Results
 pub mod Sights
+pub mod Spelling
 pub mod Stops
 pub mod Told
 pub mod What

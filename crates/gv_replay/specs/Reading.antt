@@ -14,27 +14,35 @@ use Rattle.gv_spec.specs.declared.explanation.Move.TheVariants as move
 use Rattle.gv_terms.specs.declared.spec.Spec.{Spec}
 use Rattle.gv_tokens.specs.declared.judging.Stop.{Stop}
 use Rattle.gv_tokens.specs.declared.judging.Stop.TheVariants as stop
+use Rattle.gv_replay.specs.declared.line.Line.{Line}
 use Rattle.gv_replay.specs.declared.line.TextKind.{TextKind}
 use Rattle.gv_replay.specs.declared.line.TextKind.TheVariants as text_kind
+use Rattle.gv_replay.specs.Beginnings.{IsMisplaced}
 use Rattle.gv_replay.specs.Lines.{Fault, lines_of}
 use Rattle.gv_replay.specs.Meaning.{moves_of}
 use Rattle.gv_replay.specs.Results.{and_then}
 use Rattle.gv_replay.specs.Sights.{sights_of}
+use Rattle.gv_replay.specs.Spelling.{AreLines}
 
--- what a text with these tokens tells: its lines first, and then the moves that they tell
-abbrev pub told_by : TextKind → Spec → List ℕ → List Token → Result (List Move) Fault
-told_by kind s text tokens = and_then (moves_of s) (lines_of kind (length text) (sights_of text tokens))
-
--- a text tells these moves
+-- a text tells these moves: its tokens are lines, which tell them
 pub record Tells (kind : TextKind) (s : Spec) (text : List ℕ) (moves : List Move) : Type 0 where
   pub tokens : List Token
+  pub lines : List Line
   pub read : lex.IsRead text tokens
-  pub told : told_by kind s text tokens ≡ Ok moves
+  pub spelled : AreLines kind (sights_of text tokens) lines
+  pub told : moves_of s lines ≡ Ok moves
 
--- A text is refused at a byte: for its characters, or, where it has tokens, for what these don't tell.
+-- A text is refused at a byte: for its characters; or, where it has tokens, for the first one that no lines have there; or,
+-- where these are lines, for what the lines say of names, numbers and sorts.
 pub data IsRefused (kind : TextKind) (s : Spec) (text : List ℕ) (at : ℕ) (code : Code) : Type 0 where
   characters : lex.IsRefused text at code → IsRefused kind s text at code
-  lines : (tokens : List Token) → lex.IsRead text tokens → told_by kind s text tokens ≡ Err (at, code) → IsRefused kind s text at code
+  grammar : (tokens : List Token) → lex.IsRead text tokens → IsMisplaced kind (length text) (sights_of text tokens) at code → IsRefused kind s text at code
+  meaning : (tokens : List Token) (lines : List Line) → lex.IsRead text tokens → AreLines kind (sights_of text tokens) lines → moves_of s lines ≡ Err (at, code)
+      → IsRefused kind s text at code
+
+-- what the pass over a text with these tokens computes
+abbrev pub told_by : TextKind → Spec → List ℕ → List Token → Result (List Move) Fault
+told_by kind s text tokens = and_then (moves_of s) (lines_of kind (length text) (sights_of text tokens))
 
 -- a text tells these moves of an explanation
 abbrev pub TellsMoves : Spec → List ℕ → List Move → Type 0

@@ -16,6 +16,8 @@ mod part;
 mod progress;
 mod reading;
 mod sight;
+#[cfg(test)]
+mod tests;
 mod told;
 mod what;
 

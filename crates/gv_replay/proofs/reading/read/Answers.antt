@@ -1,4 +1,4 @@
-use Rattle.gv_replay.proofs.AnswerLemmas.{unread_only, unread_fault, told_only, told_fault, stopped_only, stopped_refused, stopped_fault}
+use Rattle.gv_replay.proofs.AnswerLemmas.{tells, unread_only, unread_fault, told_only, told_fault, stopped_only, stopped_refused, stopped_fault}
 use Rattle.gv_replay.proofs.OfSpecLemmas.{text_told}
 use Rattle.gv_replay.proofs.reading.read.Goals as goal
 
@@ -32,3 +32,7 @@ returns-clause-refused c =
 pub returns-clause-fault : goal.returns-clause-fault
 returns-clause-fault c = λ at code r.
     rw c.refusal.ensures (stopped_fault c.args.kind c.args.spec.now c.args.text.now c.in_ok-tokens.tokens c.in-Err.stop c.in_ok-tokens.ensures.only c.in_ok-tokens.ensures.fault (rw c.as_slice.ensures.value at c.in-Err.ensures.err) at code r)
+
+pub returns-in-Ok-clause-found : goal.returns-in-Ok-clause-found
+returns-in-Ok-clause-found c =
+    tells c.args.kind c.args.spec.now c.args.text.now c.in_ok-tokens.tokens.items c.in-Ok.moves.items c.in_ok-tokens.ensures.read (rw c.as_slice.ensures.value at c.in-Ok.ensures.ok)
