@@ -101,7 +101,15 @@ fn read(alloc: Global, text: &[u8], spec: &Spec, kind: TextKind) -> Result<Vec<M
     }
 }
 
-/// The moves of an explanation.
+/// The moves of an explanation that a text of fewer than 2^32 - 1 bytes tells, in the order of its lines `call K OP ARGS`,
+/// `answer K`, `answer K REPLY`, `crash`, `boot` and `act K`, of which each stands on a line of its own.
+///
+/// A refusal is that of the first stage that refuses: the characters, as `lex` tells; the lines, with `Unexpected` at the
+/// first token that no lines have there, `BadNumber` where that is a number of 2^64 or more, and `EndOfText` where the last
+/// line isn't whole; then, at the first place, `WrongCount` at a `call` with another number of arguments than its
+/// operation has parameters, `Undeclared` at a name that is no operation's, `WrongType` at an argument of another sort
+/// than its parameter, and `TooMany` at a K of 2^32 or more and at a count above 16,777,216. `NoMemory` comes where
+/// memory runs out. This project's own.
 pub fn read_moves(alloc: Global, text: &[u8], spec: &Spec) -> Result<Vec<Move>, Refusal>
     requires { length text.now < 2 ^ 32 - 1 }
     ensures found { IfOk result (λ moves. reading.TellsMoves spec.now text.now moves.items) }
@@ -128,7 +136,9 @@ fn entries_in(alloc: Global, moves: Vec<Move>) -> Result<Vec<Entry>, NoMemory>
     Ok(entries)
 }
 
-/// The entries of a history.
+/// The entries of a history that a text of fewer than 2^32 - 1 bytes tells, in the order of its lines: those of
+/// `read_moves` but `act K`, and `end`, which may stand as the last line and tells nothing. Refusals are those of
+/// `read_moves`. This project's own.
 pub fn read_history(alloc: Global, text: &[u8], spec: &Spec) -> Result<Vec<Entry>, Refusal>
     requires { length text.now < 2 ^ 32 - 1 }
     ensures found { IfOk result (λ history. TellsHistory spec.now text.now history.items) }
