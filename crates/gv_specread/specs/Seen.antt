@@ -41,7 +41,7 @@ constant_words =
     (codes "true", CLASS_TRUE_WORD) ∷ (codes "false", CLASS_FALSE_WORD) ∷ (codes "nil", CLASS_NIL_WORD)
     ∷ (codes "mapww", CLASS_MAP_WW_WORD) ∷ (codes "mapwb", CLASS_MAP_WB_WORD) ∷ []
 
--- those of these five tables that have six letters or more
+-- the words of these five kinds that have six letters or more
 abbrev pub long_words : List (List ℕ × ℕ)
 long_words =
     (codes "leased", CLASS_LEASED_WORD) ∷ (codes "Blocks", CLASS_BLOCKS_SORT) ∷ (codes "SliceS", CLASS_SLICE_S_SORT) ∷ (codes "blocks", CLASS_BLOCKS_WORD)

@@ -27,12 +27,12 @@ mod token;
 mod tree;
 mod whole_term;
 
-pub use reading::{MAX_LEVELS, parse_spec};
+pub use reading::{MAX_LEVELS, classes_of, parse_spec, see};
 pub use resolving::make_term;
 pub use scope::Scope;
 pub use term::{PlacedTerm, Span, TermNode};
 pub use term_fault::{Fault, TermFault};
-pub use term_reading::{TermFront, read_term};
+pub use term_reading::{TermFront, parse_term};
 pub use token::SpecToken;
 pub use tree::{
     AssignTree, BodyTree, DisksTree, FieldTree, OpTree, ParamTree, PlacedNumber, PlacedSort,

@@ -21,10 +21,22 @@ use std::alloc::{AllocError, Global};
 pub const MAX_LEVELS: u32 = 200;
 
 /// The class of each token.
-fn classes_of(alloc: Global, tokens: &[SpecToken]) -> Result<Vec<u8>, AllocError>
+pub fn classes_of(alloc: Global, tokens: &[SpecToken]) -> Result<Vec<u8>, AllocError>
     ensures { IfOk result (λ classes. classes.items ≡ map (λ token. token.class) tokens.now) }
 {
     tokens.iter().map(|token| token.class).collect(alloc)
+}
+
+/// The tokens of a text as the grammar sees them. The tokens are those that `lex` of gv_lex gives for the text.
+pub fn see(alloc: Global, text: &[u8], tokens: &[Token]) -> Result<Vec<SpecToken>, AllocError>
+    requires { AreSpans 0 (length text.now) tokens.now }
+    ensures value { IfOk result (λ seen. seen.items ≡ seen_in text.now tokens.now) }
+    ensures starts { IfOk result (λ seen. StartsWithin (length text.now) seen.items) }
+{
+    match seen(alloc, text, tokens) {
+        Ok(seen) => Ok(seen),
+        Err(fault) => Err(fault),
+    }
 }
 
 // The specification that the tokens spell.
@@ -41,16 +53,16 @@ fn read(alloc: Global, tokens: &[SpecToken]) -> Result<SpecTree, ReadFault>
     }
 }
 
-// The token with this number.
-fn token_at(tokens: &[SpecToken], at: usize) -> SpecToken
+/// The token with this number.
+pub(crate) fn token_at(tokens: &[SpecToken], at: usize) -> SpecToken
     requires { at < length tokens.now }
     ensures { slice_get tokens.now at ≡ Some result }
 {
     tokens[at]
 }
 
-// The code of a token that the grammar doesn't allow where it stands.
-fn code_of(class: u8) -> Code
+/// The code of a token that the grammar doesn't allow where it stands.
+pub(crate) fn code_of(class: u8) -> Code
     ensures { result ≡ code_by class }
 {
     if class == CLASS_LARGE_NUMBER {

@@ -3,8 +3,9 @@
 //! A term is shown as the column where it begins, and then its nodes: a variable as its name, an operator with its
 //! column before its parts. A space stands after each node.
 
-use crate::reading::parse_spec;
+use crate::reading::{classes_of, parse_spec, see};
 use crate::term::{PlacedTerm, Span, TermNode};
+use crate::term_reading::parse_term;
 use crate::tree::{BodyTree, DisksTree, PlacedSort, SpecTree};
 use gv_base::{Place, Refusal, place_of};
 use gv_lex::lex;
@@ -504,6 +505,63 @@ body@174 n:=14 Number(0)@14() ";
             assert_eq!(rt; found.as_slice(), expected.as_slice());
         }
         Err(_) => return Err("a specification is read".into()),
+    }
+    Ok(())
+}
+
+// Texts that are read as a term by itself, with the levels that are open before it: how many tokens the term has, and
+// what it is; or where it is refused.
+const FRONTS: [(&[u8], u32, &[u8]); 22] = [
+    (b"a", 0, b"1: 1 a "),
+    (b"a + b; c", 0, b"3: 1 Plus@1(a b ) "),
+    (b"(a) > b }", 0, b"5: 1 Less@1(b a ) "),
+    (b"len x", 0, b"1: 1 len "),
+    (b"len(x) y", 0, b"4: 1 Len@1(x ) "),
+    (b"f(x)", 0, b"1: 1 f "),
+    (b"a 18446744073709551616", 0, b"1: 1 a "),
+    (b"len(x", 0, b"1:6 EndOfText"),
+    (b"len(x;", 0, b"1:6 Unexpected"),
+    (b"at(x)", 0, b"1:5 Unexpected"),
+    (b"", 0, b"1:1 EndOfText"),
+    (b"; a", 0, b"1:1 Unexpected"),
+    (b"a + 18446744073709551616", 0, b"1:5 BadNumber"),
+    (b"18446744073709551616", 0, b"1:1 BadNumber"),
+    (b"a - - b", 0, b"1:5 Unexpected"),
+    (b"a ^ b ^", 0, b"1:8 EndOfText"),
+    (b"a", 200, b"1: 1 a "),
+    (b"!!a", 198, b"3: 1 Not@1(Not@2(a ) ) "),
+    (b"!!a", 199, b"1:2 TooDeep"),
+    (b"!!a", 200, b"1:1 TooDeep"),
+    (b"a + b +", 199, b"1:7 TooDeep"),
+    (b"len(x", 200, b"1:4 TooDeep"),
+];
+
+fn front_shown(alloc: Global, text: &[u8], level: u32) -> Result<Vec<u8>, Fail> {
+    if text.len() > 1000 {
+        return Err("a small text".into());
+    }
+    let mut out = Vec::new(alloc);
+    let Ok(tokens) = lex(alloc, text) else {
+        return Err("tokens".into());
+    };
+    let seen = see(alloc, text, &tokens)?;
+    let classes = classes_of(alloc, &seen)?;
+    match parse_term(alloc, text, &seen, &classes, level) {
+        Ok(front) => {
+            let head = format!(in alloc; "{}: ", front.len)?;
+            out.extend_from_slice(head.as_bytes())?;
+            push_term(alloc, &mut out, text, &front.term)?;
+        }
+        Err(refusal) => push_refusal(alloc, &mut out, &refusal)?,
+    }
+    Ok(out)
+}
+
+#[test]
+fn a_term_is_read_at_the_front(rt: HostRuntime) -> Result<(), Fail> {
+    for (text, level, expected) in &FRONTS {
+        let found = front_shown(rt.alloc(), text, *level)?;
+        assert_eq!(rt; found.as_slice(), *expected, "{text:?} from level {level}");
     }
     Ok(())
 }
