@@ -1,0 +1,3 @@
+//! Definitions of arithmetic on words, of words as bytes and of finite maps from words, for contracts
+//! above.
+#![tactic(auto)]

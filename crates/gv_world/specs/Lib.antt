@@ -1,0 +1,9 @@
+pub mod Answers
+pub mod Cells
+pub mod Disks
+pub mod FiniteMaps
+pub mod Laws
+pub mod Mutexes
+pub mod Rows
+pub mod Slices
+pub mod Store
