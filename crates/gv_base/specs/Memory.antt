@@ -1,5 +1,5 @@
 -- Files and sinks in memory: what they were made with, and what their next call does.
-use Rattle.std.specs.Prelude.{◌≡◌, ℕ, ◌+◌, ◌-◌, ◌^◌, min, List, [], ◌++◌, take, length, Bool, true, false, not, ◌||◌, nat_eq, nat_lt, is_some, if◌then◌else◌, Result, Ok, Err}
+use Rattle.std.specs.Prelude.{◌≡◌, ℕ, ◌+◌, ◌-◌, ◌^◌, min, List, [], ◌++◌, take, length, Bool, true, false, not, ◌||◌, nat_eq, nat_lt, Option, Some, is_some, if◌then◌else◌, Result, Ok, Err}
 use Rattle.std.specs.List.{list_any}
 use Rattle.gv_base.specs.declared.memory.Held.{Held}
 use Rattle.gv_base.specs.declared.memory.MemFiles.{MemFiles}
@@ -39,6 +39,12 @@ IsFetchAsListed before name now (Ok x) = (fetch_fails before name ≡ false) × 
 IsFetchAsListed before name now (Err fetch.Failed) = (fetch_fails before name ≡ true) × (now.calls ≡ counted before.calls)
 IsFetchAsListed before name now (Err fetch.NoMemory) = now ≡ before
 
+-- a fetch that fails is one fault more, and its name is the last that failed; no other moves either
+abbrev pub IsFaultAsFetched : {T : Type 0} → MemFiles → List ℕ → MemFiles → Result T FetchFail → Type 0
+IsFaultAsFetched before name now (Ok x) = (now.faults ≡ before.faults) × (now.failed ≡ before.failed)
+IsFaultAsFetched before name now (Err fetch.Failed) = (now.faults ≡ counted before.faults) × (now.failed ≡ Some name)
+IsFaultAsFetched before name now (Err fetch.NoMemory) = now ≡ before
+
 -- ---- sinks
 
 -- the room in bytes, the numbers of the puts that are to fail, and how many puts there were
@@ -56,10 +62,15 @@ abbrev pub put_fails : MemSink → List ℕ → Bool
 put_fails s piece = is_listed s.fails s.calls || nat_lt s.room (length s.bytes.items + length piece)
 
 -- what the next put writes: of a piece that goes past the room what fits, and nothing where the number is listed
-abbrev pub put_front : MemSink → List ℕ → List ℕ
-put_front s piece = if is_listed s.fails s.calls then [] else take (s.room - length s.bytes.items) piece
+abbrev pub put_prefix : MemSink → List ℕ → List ℕ
+put_prefix s piece = if is_listed s.fails s.calls then [] else take (s.room - length s.bytes.items) piece
 
 -- a put fails just where it is to
 abbrev pub IsPutAsListed : MemSink → List ℕ → Result (Unit {0}) PutFail → Type 0
 IsPutAsListed before piece (Ok x) = put_fails before piece ≡ false
 IsPutAsListed before piece (Err e) = put_fails before piece ≡ true
+
+-- a put that fails is one fault more, and no other is
+abbrev pub IsFaultAsPut : MemSink → MemSink → Result (Unit {0}) PutFail → Type 0
+IsFaultAsPut before now (Ok x) = now.faults ≡ before.faults
+IsFaultAsPut before now (Err e) = now.faults ≡ counted before.faults

@@ -1,7 +1,9 @@
 //! Values that every crate above names, the traits of the outside, and their implementations.
 #![tactic(auto)]
 
+mod answer;
 mod answers;
+mod lines;
 mod list;
 mod mem_sink;
 mod memory;
@@ -15,8 +17,11 @@ mod small;
 mod steps;
 mod sure;
 mod token;
+mod val;
 
+pub use answer::Answer;
 pub use answers::{Code, NoMemory, Place, Refusal};
+pub use lines::Lines;
 pub use list::List;
 pub use mem_sink::MemSink;
 pub use memory::{Held, MemFiles};
@@ -30,6 +35,4 @@ pub use small::{Part, Small, SmallOp, Turn};
 pub use steps::Steps;
 pub use sure::{SureFiles, SureSink};
 pub use token::{Kind, Token};
-
-#[cfg(test)]
-mod tests;
+pub use val::Val;

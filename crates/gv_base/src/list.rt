@@ -7,7 +7,8 @@ use std::alloc::{AllocFailed, Global};
 use std::marker::Model;
 
 /// A `Vec` that contracts see as the list of its items. It may stand inside a type that its items
-/// lead back to, so trees hold their children in it. This project's own.
+/// lead back to, so trees hold their children in it. Two lists are equal where they are as long and their
+/// items are, in order. This project's own.
 #[derive(Debug, Drop)]
 pub struct List<T> {
     items: Vec<T>,
@@ -93,4 +94,22 @@ impl<T> List<T> {
     {
         self.items.pop()
     }
+}
+
+impl<T: PartialEq> PartialEq for List<T> {
+    ghost use Rattle.std.specs.Cmp.Lexicographic.{pointwise, lists_per};
+
+    ghost eq = { pointwise T.eq };
+
+    ghost laws = { lists_per T.laws };
+
+    fn eq(&self, other: &List<T>) -> bool {
+        self.items.as_slice() == other.items.as_slice()
+    }
+}
+
+impl<T: Eq> Eq for List<T> {
+    ghost use Rattle.std.specs.Cmp.Lexicographic.{lists_equiv};
+
+    ghost laws = { lists_equiv T.Eq.laws };
 }

@@ -2,8 +2,8 @@
 
 ghost use Rattle.std.specs.Prelude.{◌≡◌, ◌+◌, ◌-◌, ◌^◌, ◌<◌, ◌≤◌, take, length, IfOk, IfErr, ℕ, List as Seq};
 ghost use Rattle.std.specs.Option.{option_copied};
-ghost use Rattle.gv_base.specs.Outside.{bytes_under, Fetched, FetchCause, FetchName};
-ghost use Rattle.gv_base.specs.Memory.{holding, fetches_to_fail, fetches, IsFetchAsListed};
+ghost use Rattle.gv_base.specs.Outside.{bytes_under, told, Fetched, FetchCause, FetchName};
+ghost use Rattle.gv_base.specs.Memory.{holding, fetches_to_fail, fetches, IsFetchAsListed, IsFaultAsFetched};
 
 use crate::list::List;
 use crate::name::Name;
@@ -11,7 +11,7 @@ use crate::outside::{FetchFail, Files};
 use std::alloc::Global;
 
 /// A name, and the bytes that are held under it. This project's own.
-#[derive(Debug, Drop)]
+#[derive(Debug, PartialEq, Eq, Drop)]
 pub struct Held {
     pub name: Name,
     pub bytes: Name,
@@ -38,7 +38,7 @@ pub fn front(alloc: Global, bytes: &[u8], most: u64) -> Result<Vec<u8>, FetchFai
     } else {
         &bytes[..most]
     };
-    Vec::from_slice(alloc, bytes).map_err(|_| FetchFail::NoMemory)
+    Ok(Vec::from_slice(alloc, bytes)?)
 }
 
 /// Files in memory, which fail at the fetches of a list. This project's own.
@@ -53,9 +53,9 @@ pub struct MemFiles {
 
 impl MemFiles {
     /// Files that hold these bytes, and fail at the fetches with these numbers, counted from 1.
-    /// Of two alike names the first counts; a name that isn't held is a fault.
+    /// Of two alike names the first counts; a file of a name that isn't held is absent.
     pub fn new(held: List<Held>, fails: List<u64>) -> MemFiles
-        ensures held { (name : Seq ℕ) → ⟦<MemFiles as Files>⟧.held result name ≡ bytes_under held name }
+        ensures held { (name : Seq ℕ) → ⟦<MemFiles as Files>⟧.held result name ≡ told (bytes_under held name) }
         ensures no_fault { ⟦<MemFiles as Files>⟧.faults result ≡ 0 }
         ensures given { (holding result ≡ held) × (fetches_to_fail result ≡ fails) }
         ensures no_call { fetches result ≡ 0 }
@@ -71,7 +71,7 @@ impl MemFiles {
 }
 
 impl Files for MemFiles {
-    ghost held = { λ s n. bytes_under s.held n };
+    ghost held = { λ s n. told (bytes_under s.held n) };
 
     ghost failed = { λ s. s.failed };
 
@@ -79,19 +79,20 @@ impl Files for MemFiles {
 
     fn fetch(&mut self, alloc: Global, name: &str, most: u64) -> Result<Vec<u8>, FetchFail>
         requires { most < 2 ^ 64 - 1 }
-        ensures bytes { IfOk result (λ v. Fetched (bytes_under self.old.held name.now) most v.items) }
+        ensures bytes { IfOk result (λ v. Fetched (told (bytes_under self.old.held name.now)) most v.items) }
         ensures within { IfOk result (λ v. length v.items ≤ most + 1) }
-        ensures kept { (other : Seq ℕ) → bytes_under self.new.held other ≡ bytes_under self.old.held other }
+        ensures kept { (other : Seq ℕ) → told (bytes_under self.new.held other) ≡ told (bytes_under self.old.held other) }
         ensures cause { FetchCause self.old.faults self.new.faults result }
         ensures name { FetchName self.old.failed self.new.failed name.now result }
         ensures exact { IsFetchAsListed self.old name.now self.new result }
+        ensures fault { IsFaultAsFetched self.old name.now self.new result }
         ensures given { (holding self.new ≡ holding self.old) × (fetches_to_fail self.new ≡ fetches_to_fail self.old) }
     {
         let found = match find_held(self.held.as_slice(), name.as_bytes()) {
             Some(bytes) => Some(front(alloc, bytes.as_slice(), most)?),
             None => None,
         };
-        let asked = Name::from_slice(alloc, name.as_bytes()).map_err(|_| FetchFail::NoMemory)?;
+        let asked = Name::from_slice(alloc, name.as_bytes())?;
         self.calls = self.calls.saturating_add(1);
         match found {
             Some(bytes) if !self.fails.as_slice().contains(&self.calls) => Ok(bytes),

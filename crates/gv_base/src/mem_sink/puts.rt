@@ -2,7 +2,7 @@
 
 ghost use Rattle.std.specs.Prelude.{◌≡◌, ◌++◌, [], IfOk, Some};
 ghost use Rattle.gv_base.specs.Outside.{Put, PutCause};
-ghost use Rattle.gv_base.specs.Memory.{room_of, puts_to_fail, puts, counted, put_front, IsPutAsListed};
+ghost use Rattle.gv_base.specs.Memory.{room_of, puts_to_fail, puts, counted, put_prefix, IsPutAsListed, IsFaultAsPut};
 
 use super::MemSink;
 use crate::answers::NoMemory;
@@ -45,7 +45,8 @@ impl Sink for MemSink {
         ensures bytes { Put (Some self.old.bytes.items) piece.now (Some self.new.bytes.items) result }
         ensures cause { PutCause self.old.faults self.new.faults result }
         ensures exact { IsPutAsListed self.old piece.now result }
-        ensures front { self.new.bytes.items ≡ self.old.bytes.items ++ put_front self.old piece.now }
+        ensures prefix { self.new.bytes.items ≡ self.old.bytes.items ++ put_prefix self.old piece.now }
+        ensures fault { IsFaultAsPut self.old self.new result }
         ensures given { (room_of self.new ≡ room_of self.old) × (puts_to_fail self.new ≡ puts_to_fail self.old) }
         ensures call { puts self.new ≡ counted (puts self.old) }
     {

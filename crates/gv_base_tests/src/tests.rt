@@ -1,8 +1,8 @@
 //! The adapters over a real file and a real stream, and the files and the sinks in memory.
 
-use crate::{
-    Code, DiskFiles, FetchFail, Files, Held, List, MemFiles, MemSink, Name, PutFail, Sink, StdSink,
-    SureFiles, SureSink,
+use gv_base::{
+    Answer, Code, DiskFiles, FetchFail, Files, Held, Lines, List, MemFiles, MemSink, Name, PutFail,
+    Reason, Sink, SliceVal, StdSink, SureFiles, SureSink, Val, place_of,
 };
 use std::alloc::Global;
 use std::io::Write;
@@ -217,6 +217,12 @@ fn names_lists_and_codes(rt: HostRuntime) -> Result<(), Fail> {
     assert_eq!(rt; list.pop(), Some(11));
     assert_eq!(rt; list.get(1).copied(), Some(9));
     assert!(rt; list.get(2).is_none() && !list.is_empty());
+    assert_eq!(rt; list, numbers(rt.alloc(), &[7, 9])?);
+    let others: [&[u64]; 3] = [&[9, 7], &[7], &[7, 9, 9]];
+    for items in others {
+        assert!(rt; list != numbers(rt.alloc(), items)?, "{items:?}");
+    }
+    assert!(rt; held(rt.alloc())? == held(rt.alloc())?);
     assert_eq!(rt; list.into_vec().as_slice(), [7, 9].as_slice());
     for (code, number, text) in [
         (Code::BadUtf8, 1, "BadUtf8"),
@@ -227,4 +233,36 @@ fn names_lists_and_codes(rt: HostRuntime) -> Result<(), Fail> {
         assert_eq!(rt; code.name(), text);
     }
     Ok(())
+}
+
+// Both give the same places: at a line's first byte, at its newline, on an empty line and at the end.
+#[test]
+fn an_index_of_lines_gives_the_places_of_the_text(rt: HostRuntime) -> Result<(), Fail> {
+    let text = b"ab\n\ncd";
+    let lines = Lines::new(rt.alloc(), text)?;
+    for (at, line, column) in [(0, 1, 1), (2, 1, 3), (3, 2, 1), (4, 3, 1), (6, 3, 3)] {
+        let place = lines.place(at);
+        assert_eq!(rt; (place.line, place.column), (line, column), "at {at}");
+        assert!(rt; place_of(text, at) == place);
+    }
+    Ok(())
+}
+
+#[test]
+fn answers_and_values_compare(rt: HostRuntime) {
+    let spare = SliceVal {
+        object: 1,
+        offset: 0,
+        length: 2,
+        capacity: 3,
+    };
+    let full = SliceVal {
+        capacity: 2,
+        ..spare
+    };
+    assert!(rt; Answer::Next(Val::Slice(spare)) != Answer::Next(Val::Slice(full)));
+    assert!(rt; Answer::Next(Val::Word(7)) != Answer::Next(Val::Byte(7)));
+    let race: Answer<Val> = Answer::Undefined(Reason::Race);
+    assert!(rt; race == Answer::Undefined(Reason::Race) && race != Answer::Blocked);
+    assert_eq!(rt; Reason::BadBlockLength.name(), "BadBlockLength");
 }
