@@ -26,6 +26,6 @@ ascii_char b bs h =
     ap (λ n. cond (ltb (length (b ∷ bs)) (1 + n)) None (char_of (take (1 + n) (b ∷ bs)))) (no_more b h)
     ∙ ap (λ t. cond t None (char_of (b ∷ []))) (le-ltb (length (b ∷ bs)) 1 (omega arith)) ∙ alone b h
 
-pub ascii_front : (text : List ℕ) → 1 ≤ length text → get_or text 0 0 < 128 → Some (get_or text 0 0) ≡ first_char text
-ascii_front [] l h = absurd (omega arith)
-ascii_front (b ∷ bs) l h = sym (ascii_char b bs h)
+pub ascii_start : (text : List ℕ) → 1 ≤ length text → get_or text 0 0 < 128 → Some (get_or text 0 0) ≡ first_char text
+ascii_start [] l h = absurd (omega arith)
+ascii_start (b ∷ bs) l h = sym (ascii_char b bs h)

@@ -2,18 +2,18 @@
 use Rattle.std.proofs.Common.{◌≡◌, ◌+◌, ◌++◌, ℕ, List, length, take, drop, Option, sym, ap, ◌∙◌}
 use Rattle.std.proofs.lemmas.List.{length-take-le}
 use Rattle.gv_base.specs.declared.token.Token.{Token}
+use Rattle.gv_text.specs.Cutting.{Piece}
+use Rattle.gv_text.specs.Scanning.{IsNext}
+use Rattle.gv_text.proofs.Cuts.{HasReadTo}
+use Rattle.gv_text.proofs.Longest.{ShowsPieces}
+use Rattle.gv_text.proofs.NextPieces.{turned}
 use Rattle.gv_tokens.specs.declared.form.Form.{Form}
-use Rattle.gv_tokens.specs.Cutting.{Piece}
 use Rattle.gv_tokens.specs.Layout.{kind_of, ends_line, tokens_for, pending_for, laid}
 use Rattle.gv_tokens.specs.Reading.{go}
-use Rattle.gv_tokens.specs.Scanning.{IsNext}
-use Rattle.gv_tokens.proofs.Cuts.{HasReadTo}
-use Rattle.gv_tokens.proofs.FormFronts.{form_fronts, length_fronts}
-use Rattle.gv_tokens.proofs.Longest.{ShowsPieces}
-use Rattle.gv_tokens.proofs.NextPieces.{turned}
+use Rattle.gv_tokens.proofs.FormPrefixes.{form_keeps, length_keeps}
 
 pub go_shows : ShowsPieces go
-go_shows = record { forms = form_fronts; lengths = length_fronts }
+go_shows = record { forms = form_keeps; lengths = length_keeps }
 
 -- one turn of the pass, by the values that it leaves
 pub go_turned : (text : List ℕ) (at : ℕ) (pending : Option ℕ) (out : List Token) (form : Form) (len : ℕ) (rest : List ℕ) (after : Option ℕ) (more : List Token)

@@ -1,4 +1,4 @@
--- The letters and digits at the front of a text, a character at a time.
+-- The letters and digits at the start of a text, a character at a time.
 use Rattle.std.proofs.Common.{◌≡◌, ◌≤◌, ◌+◌, ℕ, zero, suc, true, Some, List, [], ◌∷◌, length, drop, slice_index, refl, ap, ◌∙◌, sym, arith}
 use Rattle.std.proofs.lemmas.List.{get_or-drop, drop-drop, length-drop}
 use Rattle.std.specs.Str.{continuation_len}
@@ -11,10 +11,10 @@ letters_skip zero bs h = omega arith
 letters_skip (suc left) [] h = absurd (omega arith)
 letters_skip (suc left) (b ∷ bs) h = omega (arith, letters_skip left bs (omega arith))
 
-at_front : (b : ℕ) (bs : List ℕ) (c : ℕ) → first_char (b ∷ bs) ≡ Some c → is_letter_or_digit c ≡ true
+at_start : (b : ℕ) (bs : List ℕ) (c : ℕ) → first_char (b ∷ bs) ≡ Some c → is_letter_or_digit c ≡ true
     → letters_run 0 (b ∷ bs) ≡ 1 + letters_run (continuation_len b) bs
 unfolding letters_run
-at_front b bs c e l = rw (e, l) refl
+at_start b bs c e l = rw (e, l) refl
 
 -- past one of them
 pub letters_step : (bs : List ℕ) (c : ℕ) → first_char bs ≡ Some c → is_letter_or_digit c ≡ true → 1 + continuation_len (slice_index bs 0) ≤ length bs
@@ -22,7 +22,7 @@ pub letters_step : (bs : List ℕ) (c : ℕ) → first_char bs ≡ Some c → is
 letters_step [] c e l h = absurd (omega arith)
 letters_step (b ∷ bs) c e l h =
     let past : 1 + continuation_len b ≡ suc (continuation_len b) = omega arith in
-    at_front b bs c e l ∙ ap (λ n. 1 + n) (letters_skip (continuation_len b) bs (omega arith)) ∙ rw past (omega arith)
+    at_start b bs c e l ∙ ap (λ n. 1 + n) (letters_skip (continuation_len b) bs (omega arith)) ∙ rw past (omega arith)
 
 -- the same within a text
 pub letters_turn : (text : List ℕ) (at n c : ℕ) → n ≡ 1 + continuation_len (slice_index text at) → Some c ≡ first_char (drop at text) → is_letter_or_digit c ≡ true

@@ -1,15 +1,10 @@
-pub mod AsciiChars
-pub mod Cuts
-pub mod FirstFaults
-pub mod FormFronts
-pub mod Fronts
-pub mod GoPieces
-pub mod Letters
-pub mod Longest
-pub mod NextPieces
-pub mod RuneFronts
-pub mod SignFronts
-pub mod Spans
-pub mod Values
-pub mod WordFronts
 mod Worked
+pub mod AsciiChars
+pub mod FormPrefixes
+pub mod GoPieces
+pub mod GoSpans
+pub mod Letters
+pub mod Prefixes
+pub mod RunePrefixes
+pub mod SignPrefixes
+pub mod WordPrefixes

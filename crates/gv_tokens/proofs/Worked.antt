@@ -2,14 +2,16 @@
 use Rattle.std.proofs.Common.{◌≡◌, Some, None, [], ◌∷◌, codes, refl}
 use Rattle.gv_base.specs.declared.answers.Code.TheVariants as fault
 use Rattle.gv_base.specs.declared.token.Kind.TheVariants as kind
+use Rattle.gv_text.specs.Tokens.{token}
+use Rattle.gv_text.specs.Digits.{value_of}
+use Rattle.gv_text.specs.Scanning.{piece}
 use Rattle.gv_tokens.specs.declared.form.Form.TheVariants.{Blank, LineComment, BlockComment, Word, Number, Text, Sign}
 use Rattle.gv_tokens.specs.Comments.{block_rest}
 use Rattle.gv_tokens.specs.Faults.{fault_of}
 use Rattle.gv_tokens.specs.Forms.{form_of}
-use Rattle.gv_tokens.specs.Layout.{laid, token}
-use Rattle.gv_tokens.specs.Numbers.{number_length, number_fault, is_spaced, value_of}
+use Rattle.gv_tokens.specs.Layout.{laid}
+use Rattle.gv_tokens.specs.Numbers.{number_length, number_fault, is_spaced}
 use Rattle.gv_tokens.specs.Pieces.{length_of}
-use Rattle.gv_tokens.specs.Scanning.{piece}
 use Rattle.gv_tokens.specs.Signs.{is_sign, sign_length}
 
 and_not_assigned : length_of (form_of (codes "&^=x")) (codes "&^=x") ≡ 3

@@ -1,7 +1,6 @@
--- Comments as pieces.
+-- Comments `/*` as pieces.
 use Rattle.std.specs.Prelude.{ℕ, ◌+◌, ◌&&◌, ◌==◌, if◌then◌else◌, List, [], ◌∷◌, slice_index}
-use Rattle.gv_tokens.specs.declared.bytes.Class.TheVariants.{InLineComment}
-use Rattle.gv_tokens.specs.Lengths.{run, after_two}
+use Rattle.gv_text.specs.Lengths.{after_two}
 
 -- up to the next `*/` and with it, or to the end where there is none
 unfoldable pub block_rest : List ℕ → ℕ
@@ -10,7 +9,3 @@ block_rest (b ∷ bs) = if b == 42 && slice_index bs 0 == 47 then 2 else 1 + blo
 
 abbrev pub block_length : List ℕ → ℕ
 block_length = after_two 47 42 block_rest
-
--- up to the next newline and without it, or to the end where there is none
-abbrev pub line_length : List ℕ → ℕ
-line_length = after_two 47 47 (run InLineComment)

@@ -1,8 +1,9 @@
 -- The form of the piece of a text that begins at a place.
 use Rattle.std.specs.Prelude.{ℕ, ◌||◌, ◌&&◌, ◌==◌, if◌then◌else◌, List, [], ◌∷◌, slice_index}
+use Rattle.gv_text.specs.Bytes.{is_blank, is_decimal}
 use Rattle.gv_tokens.specs.declared.form.Form.{Form}
 use Rattle.gv_tokens.specs.declared.form.Form.TheVariants.{Blank, LineComment, BlockComment, Word, Number, Text, RawText, Rune, Sign}
-use Rattle.gv_tokens.specs.Bytes.{is_blank, is_quote, is_backquote, is_decimal}
+use Rattle.gv_tokens.specs.Bytes.{is_quote, is_backquote}
 use Rattle.gv_tokens.specs.Signs.{is_sign}
 
 -- by the first two bytes, the second one 0 where there is none

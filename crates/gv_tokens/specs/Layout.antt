@@ -1,18 +1,15 @@
 -- The tokens among pieces, with Go's automatic semicolons: the Go specification, section "Semicolons".
 use Rattle.std.specs.Prelude.{ℕ, ◌+◌, Bool, true, false, not, ◌||◌, if◌then◌else◌, Option, Some, None, List, [], ◌∷◌, ◌++◌, length, codes}
 use Rattle.std.specs.List.{list_any}
-use Rattle.std.specs.Str.{bytes_eq}
 use Rattle.gv_base.specs.Places.{is_newline}
 use Rattle.gv_base.specs.declared.token.Kind.{Kind}
 use Rattle.gv_base.specs.declared.token.Kind.TheVariants as kind
 use Rattle.gv_base.specs.declared.token.Token.{Token}
+use Rattle.gv_text.specs.Cutting.{Piece}
+use Rattle.gv_text.specs.Signs.{is_among}
+use Rattle.gv_text.specs.Tokens.{sign_kind, token}
 use Rattle.gv_tokens.specs.declared.form.Form.{Form}
 use Rattle.gv_tokens.specs.declared.form.Form.TheVariants.{Blank, LineComment, BlockComment, Word, Number, Text, RawText, Rune, Sign}
-use Rattle.gv_tokens.specs.Cutting.{Piece}
-use Rattle.gv_tokens.specs.Signs.{is_among}
-
-abbrev pub sign_kind : List ℕ → Kind
-sign_kind sign = if bytes_eq sign (codes ";") then kind.Semi else kind.Sign
 
 -- what a piece is as a token, where it is one
 abbrev pub kind_of : Form → List ℕ → Option Kind
@@ -57,9 +54,6 @@ ends_line BlockComment bytes = false
 
 abbrev pub has_newline : List ℕ → Bool
 has_newline bytes = list_any is_newline bytes
-
-abbrev pub token : ℕ → ℕ → Kind → Token
-token start end kind = record { start = start; end = end; kind = kind }
 
 -- the semicolon at a place, where there is one to insert
 abbrev pub inserted : Option ℕ → List Token

@@ -1,17 +1,13 @@
 pub mod Bytes
 pub mod Chars
 pub mod Comments
-pub mod Cutting
 pub mod Faults
 pub mod Forms
-pub mod Judging
 pub mod Layout
-pub mod Lengths
 pub mod Numbers
 pub mod Pieces
 pub mod Reading
 pub mod Runes
-pub mod Scanning
 pub mod Signs
 pub mod Texts
 pub mod Words

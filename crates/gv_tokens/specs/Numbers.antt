@@ -1,14 +1,16 @@
 -- Numbers: the Go specification, sections "Integer literals" to "Imaginary literals".
-use Rattle.std.specs.Prelude.{ℕ, ◌+◌, ◌*◌, ◌^◌, Bool, true, false, not, ◌||◌, ◌&&◌, ◌==◌, nat_lt, if◌then◌else◌, Option, Some, None, List, [], ◌∷◌, length, take, drop, fold, slice_index}
-use Rattle.std.specs.Char.{is_digit, digit_value}
+use Rattle.std.specs.Prelude.{ℕ, ◌+◌, ◌*◌, ◌^◌, Bool, true, false, not, ◌||◌, ◌&&◌, ◌==◌, nat_lt, if◌then◌else◌, Option, Some, None, is_some, List, [], ◌∷◌, length, take, drop, fold, slice_index}
+use Rattle.std.specs.Char.{is_digit}
 use Rattle.gv_base.specs.declared.answers.Code.{Code}
 use Rattle.gv_base.specs.declared.answers.Code.TheVariants.{BadNumber, NotInProfile}
+use Rattle.gv_text.specs.Bytes.{is_underscore}
+use Rattle.gv_text.specs.Digits.{value_of, up_to, largest_word}
+use Rattle.gv_text.specs.Lengths.{nothing, optional, in_turn}
 use Rattle.gv_tokens.specs.declared.bytes.Class.{Class}
 use Rattle.gv_tokens.specs.declared.bytes.Class.TheVariants.{DecimalDigits, HexDigits}
+use Rattle.gv_tokens.specs.Bytes.{run}
 use Rattle.gv_tokens.specs.declared.numbers.Base.{Base}
 use Rattle.gv_tokens.specs.declared.numbers.Base.TheVariants.{Binary, Octal, Decimal, Hex}
-use Rattle.gv_tokens.specs.Bytes.{is_underscore}
-use Rattle.gv_tokens.specs.Lengths.{nothing, run, optional, in_turn}
 
 -- the byte after a leading 0 in either case
 abbrev pub base_by : ℕ → Base
@@ -83,17 +85,6 @@ is_spaced radix after (b ∷ bs) =
 abbrev pub is_spaced_or_empty : ℕ → Bool → List ℕ → Bool
 is_spaced_or_empty radix after digits = length digits == 0 || is_spaced radix after digits
 
--- the value of digits, `_` passed over
-abbrev pub with_digit : ℕ → ℕ → ℕ → ℕ
-with_digit radix n b = if is_underscore b then n else n * radix + digit_value b
-
-unfoldable pub value_of : ℕ → List ℕ → ℕ
-value_of radix digits = fold (with_digit radix) 0 digits
-
--- a number that 64 bits hold
-abbrev pub fitting : ℕ → Option ℕ
-fitting n = if nat_lt n (2 ^ 64) then Some n else None
-
 -- an integer of the profile: with a prefix, or decimal and then without a leading zero
 abbrev pub is_integer : Base → List ℕ → Bool
 is_integer Decimal digits = is_spaced 10 false digits && (length digits == 1 || not (slice_index digits 0 == 48))
@@ -146,7 +137,7 @@ is_other base whole fraction exponent imaginary =
 abbrev pub parts_fault : Base → List ℕ → List ℕ → List ℕ → List ℕ → Option Code
 parts_fault base whole fraction exponent imaginary =
     if (is_integer base whole && length fraction == 0) && (length exponent == 0 && length imaginary == 0)
-    then (if nat_lt (value_of (radix_of base) whole) (2 ^ 64) then None else Some BadNumber)
+    then (if is_some (up_to largest_word (value_of (radix_of base) whole)) then None else Some BadNumber)
     else (if is_other base whole fraction exponent imaginary then Some NotInProfile else Some BadNumber)
 
 -- the fault of a number

@@ -3,11 +3,11 @@ use Rattle.std.specs.Prelude.{ℕ, None, List}
 use Rattle.gv_base.specs.declared.answers.Code.{Code}
 use Rattle.gv_base.specs.declared.answers.Refusal.{Refusal}
 use Rattle.gv_base.specs.declared.token.Token.{Token}
+use Rattle.gv_text.specs.Cutting.{Lexis}
+use Rattle.gv_text.specs.Judging as of
 use Rattle.gv_tokens.specs.declared.form.Form.{Form}
-use Rattle.gv_tokens.specs.Cutting.{Lexis}
 use Rattle.gv_tokens.specs.Faults.{fault_of}
 use Rattle.gv_tokens.specs.Forms.{form_of}
-use Rattle.gv_tokens.specs.Judging as of
 use Rattle.gv_tokens.specs.Layout.{laid}
 use Rattle.gv_tokens.specs.Pieces.{length_of}
 

@@ -4,10 +4,10 @@ use Rattle.std.specs.Char.{is_digit}
 use Rattle.std.specs.List.{list_all, list_any}
 use Rattle.std.specs.Str.{continuation_len}
 use Rattle.gv_base.specs.Places.{is_newline}
+use Rattle.gv_text.specs.Digits.{value_of}
 use Rattle.gv_tokens.specs.declared.runes.Limit.{Limit}
 use Rattle.gv_tokens.specs.declared.runes.Limit.TheVariants.{Byte, Scalar}
 use Rattle.gv_tokens.specs.Chars.{first_char}
-use Rattle.gv_tokens.specs.Numbers.{value_of}
 
 -- what an escape by number may stand for
 abbrev pub is_allowed : Limit → ℕ → Bool

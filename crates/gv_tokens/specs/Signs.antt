@@ -1,10 +1,6 @@
 -- Operators and punctuation: those of the Go specification, section "Operators and punctuation", without `~`.
 use Rattle.std.specs.Prelude.{ℕ, Bool, ◌||◌, if◌then◌else◌, List, [], ◌∷◌, length, take, codes}
-use Rattle.std.specs.List.{list_any}
-use Rattle.std.specs.Str.{bytes_eq}
-
-abbrev pub is_among : List (List ℕ) → List ℕ → Bool
-is_among texts text = list_any (bytes_eq text) texts
+use Rattle.gv_text.specs.Signs.{is_among}
 
 abbrev pub signs_of_one : List (List ℕ)
 signs_of_one =

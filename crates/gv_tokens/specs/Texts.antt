@@ -1,8 +1,8 @@
 -- Text literals as pieces: from the quote to the next one, or to where none can follow.
 use Rattle.std.specs.Prelude.{ℕ, List}
+use Rattle.gv_text.specs.Lengths.{nothing, optional, in_turn}
 use Rattle.gv_tokens.specs.declared.bytes.Class.TheVariants.{InText, InRawText}
-use Rattle.gv_tokens.specs.Bytes.{is_quote, is_backquote}
-use Rattle.gv_tokens.specs.Lengths.{nothing, run, optional, in_turn}
+use Rattle.gv_tokens.specs.Bytes.{is_quote, is_backquote, run}
 
 abbrev pub text_length : List ℕ → ℕ
 text_length = optional is_quote (in_turn (run InText) (optional is_quote nothing))

@@ -3,7 +3,7 @@ use Rattle.std.specs.Prelude.{ℕ, zero, suc, ◌+◌, if◌then◌else◌, List
 use Rattle.std.specs.Str.{continuation_len}
 use Rattle.gv_tokens.specs.Chars.{begins_with, is_letter, is_letter_or_digit}
 
--- The letters and digits at the front; the first number counts the bytes that are left of a character that is among them.
+-- The letters and digits at the start; the first number counts the bytes that are left of a character that is among them.
 unfoldable pub letters_run : ℕ → List ℕ → ℕ
 letters_run left [] = 0
 letters_run (suc left) (b ∷ bs) = 1 + letters_run left bs

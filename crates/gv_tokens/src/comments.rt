@@ -1,22 +1,11 @@
-//! Comments as pieces.
+//! Comments `/*` as pieces.
 
 ghost use Rattle.std.specs.Prelude.{◌≡◌, ◌≤◌, length};
 ghost use Rattle.gv_tokens.specs.Comments as spec;
 
-use crate::bytes::{Class, begins_with, run_len};
+use crate::bytes::begins_with;
 
-/// How many bytes a comment `//` at the front of a text has.
-pub fn line_len(text: &[u8]) -> usize
-    ensures value { result ≡ spec.line_length text.now }
-    ensures within { result ≤ length text.now }
-{
-    match text {
-        [b'/', b'/', rest @ ..] => 2 + run_len(rest, Class::InLineComment),
-        _ => 0,
-    }
-}
-
-/// How many bytes a comment `/*` at the front of a text has.
+/// How many bytes a comment `/*` at the start of a text has.
 pub fn block_len(text: &[u8]) -> usize
     ensures value { result ≡ spec.block_length text.now }
     ensures within { result ≤ length text.now }

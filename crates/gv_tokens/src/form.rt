@@ -3,7 +3,7 @@
 ghost use Rattle.std.specs.Prelude.{◌≡◌};
 ghost use Rattle.gv_tokens.specs.Forms.{form_of, form_by};
 
-use crate::bytes::is_decimal;
+use gv_text::is_decimal;
 
 /// What a piece of a text is by its first bytes. Raw texts and runes stand in Go's grammar alone.
 #[derive(Clone, Copy, Debug, PartialEq, Eq)]

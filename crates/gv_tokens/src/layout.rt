@@ -1,11 +1,12 @@
 //! The tokens among pieces.
 
 ghost use Rattle.std.specs.Prelude.{◌≡◌, ◌+◌, ◌-◌, ◌^◌, ◌<◌, ◌++◌, if◌then◌else◌, Some, None, length, IfOk, OnOk};
+ghost use Rattle.gv_text.specs.Signs.{is_among};
 ghost use Rattle.gv_tokens.specs.Layout as spec;
-ghost use Rattle.gv_tokens.specs.Signs.{is_among};
 
 use crate::form::Form;
 use gv_base::{Kind, NoMemory, Token};
+use gv_text::sign_kind;
 
 fn kind_of(form: Form, bytes: &[u8]) -> Option<Kind>
     ensures { result ≡ spec.kind_of form bytes.now }
@@ -16,16 +17,6 @@ fn kind_of(form: Form, bytes: &[u8]) -> Option<Kind>
         Form::Number => Some(Kind::Number),
         Form::Text | Form::RawText | Form::Rune => Some(Kind::Text),
         Form::Sign => Some(sign_kind(bytes)),
-    }
-}
-
-/// The kind of a sign as a token.
-pub fn sign_kind(sign: &[u8]) -> Kind
-    ensures { result ≡ spec.sign_kind sign.now }
-{
-    match sign {
-        b";" => Kind::Semi,
-        _ => Kind::Sign,
     }
 }
 

@@ -1,12 +1,12 @@
 //! Numbers.
 
 ghost use Rattle.std.specs.Prelude.{◌≡◌, ◌+◌, ◌*◌, ◌≤◌, ◌==◌, false, length, drop, slice_index};
-ghost use Rattle.std.specs.Char.{digit_value};
-ghost use Rattle.gv_tokens.specs.Lengths.{optional, nothing};
+ghost use Rattle.gv_text.specs.Lengths.{optional, nothing};
 ghost use Rattle.gv_tokens.specs.Numbers as spec;
 
-use crate::bytes::{Class, begins_with, is_digit, run_len};
+use crate::bytes::{Class, begins_with, run_len};
 use gv_base::Code;
+use gv_text::{is_digit, word_of};
 
 /// The base of a number.
 #[derive(Clone, Copy, Debug, PartialEq, Eq)]
@@ -129,7 +129,7 @@ fn parts_len(text: &[u8], class: Class) -> usize
     whole + (fraction + (exponent + imaginary_len(&rest[exponent..])))
 }
 
-/// How many bytes the number at the front of a text has, right or wrong.
+/// How many bytes the number at the start of a text has, right or wrong.
 #[tactic(auto, unfolding(crate::specs::Numbers::number_length))]
 pub fn number_len(text: &[u8]) -> usize
     ensures value { result ≡ spec.number_length text.now }
@@ -157,36 +157,6 @@ fn is_spaced(digits: &[u8], radix: u32, after: bool) -> bool
         }
     }
     after
-}
-
-/// The value of digits, or `None` from 2^64 on.
-#[tactic(auto, unfolding(crate::specs::Numbers::value_of))]
-pub fn value_of(digits: &[u8], radix: u32) -> Option<u64>
-    requires least { 2 ≤ radix }
-    requires most { radix ≤ 36 }
-    ensures { result ≡ spec.fitting (spec.value_of radix digits.now) }
-{
-    let mut value: u64 = 0;
-    for byte in digits {
-        if *byte != b'_' {
-            match with_digit(value, radix, *byte) {
-                Some(next) => value = next,
-                None => return None,
-            }
-        }
-    }
-    Some(value)
-}
-
-fn with_digit(value: u64, radix: u32, byte: u8) -> Option<u64>
-    requires least { 2 ≤ radix }
-    requires most { radix ≤ 36 }
-    ensures { result ≡ spec.fitting (value * radix + digit_value byte) }
-{
-    let digit = (byte as char).to_digit(36).unwrap_or(36);
-    value
-        .checked_mul(u64::from(radix))?
-        .checked_add(u64::from(digit))
 }
 
 fn is_integer(base: Base, digits: &[u8]) -> bool
@@ -300,7 +270,7 @@ fn parts_fault(base: Base, parts: &Parts<'_>) -> Option<Code>
         && parts.exponent.is_empty()
         && parts.imaginary.is_empty()
     {
-        return match value_of(parts.whole, base.radix()) {
+        return match word_of(parts.whole, base.radix()) {
             Some(_) => None,
             None => Some(Code::BadNumber),
         };

@@ -5,17 +5,18 @@ ghost use Rattle.gv_base.specs.Places.{place_at};
 ghost use Rattle.gv_base.specs.Tokens.{AreSpans};
 ghost use Rattle.gv_base.specs.declared.answers.Code.{Code as AnyCode};
 ghost use Rattle.gv_base.specs.declared.token.Token.{Token as AnyToken};
-ghost use Rattle.gv_tokens.specs.Cutting.{FaultsAt};
-ghost use Rattle.gv_tokens.specs.Judging.{IsFound, IsReadAs, IsRefusedAs};
+ghost use Rattle.gv_text.specs.Cutting.{FaultsAt};
+ghost use Rattle.gv_text.specs.Judging.{IsFound};
+ghost use Rattle.gv_text.specs.Answers.{AreReadAs, IsRefusedAs};
+ghost use Rattle.gv_text.specs.Scanning.{IsNext};
 ghost use Rattle.gv_tokens.specs.Reading as spec;
-ghost use Rattle.gv_tokens.specs.Scanning.{IsNext};
 
 use crate::faults::fault_of;
 use crate::form::{Form, form_of};
-use crate::judging::{Stop, judged, mark_len, utf8_end};
 use crate::layout::{insert, lay};
 use crate::pieces::len_of;
 use gv_base::{Code, Refusal, Token};
+use gv_text::{Stop, judged, mark_len, utf8_end};
 use std::alloc::Global;
 
 // The piece that a text begins with, as its form and how many bytes it has; or its fault, with how many bytes come
@@ -42,8 +43,7 @@ fn tokens_of(alloc: Global, text: &[u8]) -> Result<Vec<Token>, Stop>
     requires { length text.now < 2 ^ 32 - 1 }
     ensures { IsFound spec.go text.now result }
 {
-    // Each token but one last semicolon has a byte of the text: its own, or the newline that inserts it.
-    let mut out = Vec::with_capacity(alloc, text.len() + 1)?;
+    let mut out = Vec::new(alloc);
     let mut pending = None;
     let mut at = mark_len(text);
     while at < text.len() {
@@ -73,7 +73,7 @@ pub fn tokens(alloc: Global, text: &[u8]) -> Result<Vec<Token>, Refusal>
     // What is read is so, and what is so is read.
     ensures read { IfOk result (λ read. spec.IsRead text.now read.items) }
     ensures only { (tokens : Seq AnyToken) → spec.IsRead text.now tokens
-        → IsReadAs tokens result }
+        → AreReadAs tokens result }
 
     // The spans stand in order within the text.
     ensures spans { IfOk result (λ read. AreSpans 0 (length text.now) read.items) }

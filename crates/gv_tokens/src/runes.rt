@@ -3,12 +3,12 @@
 ghost use Rattle.std.specs.Prelude.{◌≡◌, ◌^◌, ◌<◌, ◌≤◌, length};
 ghost use Rattle.std.specs.Char.{is_digit};
 ghost use Rattle.std.specs.List.{list_all};
-ghost use Rattle.gv_tokens.specs.Numbers.{value_of};
+ghost use Rattle.gv_text.specs.Digits.{value_of};
 ghost use Rattle.gv_tokens.specs.Runes as spec;
 
-use crate::bytes::{begins_with, is_digit};
+use crate::bytes::begins_with;
 use crate::chars::{char_len, first_char};
-use crate::numbers::value_of;
+use gv_text::{is_digit, word_of};
 
 /// What an escape by number may stand for.
 #[derive(Clone, Copy, Debug, PartialEq, Eq)]
@@ -31,7 +31,7 @@ fn is_allowed_value(limit: Limit, digits: &[u8], radix: u32) -> bool
     requires most { radix ≤ 36 }
     ensures { result ≡ spec.is_allowed limit (value_of radix digits.now) }
 {
-    match value_of(digits, radix) {
+    match word_of(digits, radix) {
         Some(value) => is_allowed(limit, value),
         None => false,
     }
@@ -112,7 +112,7 @@ fn rune_value_len(text: &[u8]) -> usize
     }
 }
 
-/// How many bytes the rune literal at the front of a text has, or 0 where none begins there.
+/// How many bytes the rune literal at the start of a text has, or 0 where none begins there.
 #[tactic(auto, unfolding(crate::specs::Runes::rune_length))]
 pub fn rune_len(text: &[u8]) -> usize
     ensures value { result ≡ spec.rune_length text.now }

@@ -1,7 +1,7 @@
 //! Text literals as pieces.
 
 ghost use Rattle.std.specs.Prelude.{◌≡◌, ◌≤◌, ◌==◌, length};
-ghost use Rattle.gv_tokens.specs.Lengths.{optional, nothing};
+ghost use Rattle.gv_text.specs.Lengths.{optional, nothing};
 ghost use Rattle.gv_tokens.specs.Texts as spec;
 
 use crate::bytes::{Class, run_len};
@@ -17,7 +17,7 @@ pub fn byte_len(text: &[u8], byte: u8) -> usize
     }
 }
 
-/// How many bytes a text literal at the front of a text has.
+/// How many bytes a text literal at the start of a text has.
 pub fn text_len(text: &[u8]) -> usize
     ensures value { result ≡ spec.text_length text.now }
     ensures within { result ≤ length text.now }
@@ -31,7 +31,7 @@ pub fn text_len(text: &[u8]) -> usize
     }
 }
 
-/// How many bytes a raw text literal at the front of a text has.
+/// How many bytes a raw text literal at the start of a text has.
 pub fn raw_len(text: &[u8]) -> usize
     ensures value { result ≡ spec.raw_length text.now }
     ensures within { result ≤ length text.now }

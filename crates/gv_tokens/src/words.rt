@@ -5,7 +5,7 @@ ghost use Rattle.gv_tokens.specs.Words as spec;
 
 use crate::chars::{char_len, first_char, is_letter, is_letter_or_digit};
 
-/// How many bytes the word at the front of a text has, or 0 where there is none.
+/// How many bytes the word at the start of a text has, or 0 where there is none.
 #[tactic(auto, unfolding(crate::specs::Words::word_length))]
 pub fn word_len(text: &[u8]) -> usize
     ensures value { result ≡ spec.word_length text.now }

@@ -1,6 +1,6 @@
+use Rattle.gv_text.proofs.NextPieces.{next_right, next_wrong, next_stray}
 use Rattle.gv_tokens.specs.Reading.{go}
 use Rattle.gv_tokens.proofs.GoPieces.{go_shows}
-use Rattle.gv_tokens.proofs.NextPieces.{next_right, next_wrong, next_stray}
 use Rattle.gv_tokens.proofs.reading.next_piece.Goals as goal
 
 pub returns-then-len-eq0-clause-fault : goal.returns-then-len-eq0-clause-fault

@@ -1,6 +1,7 @@
+use Rattle.gv_text.proofs.FirstFaults.{judged_so, read_so, refused_so}
+use Rattle.gv_text.proofs.Spans.{spans_of}
 use Rattle.gv_tokens.specs.Reading.{go}
-use Rattle.gv_tokens.proofs.FirstFaults.{judged_so, read_so, refused_so}
-use Rattle.gv_tokens.proofs.Spans.{go_lays_in_order, spans_of}
+use Rattle.gv_tokens.proofs.GoSpans.{go_lays_in_order}
 use Rattle.gv_tokens.proofs.reading.tokens.Goals as goal
 
 pub returns : goal.returns

@@ -1,9 +1,9 @@
 use Rattle.std.proofs.Common.{◌-◌, take, drop, length, subst, sym, arith}
 use Rattle.std.proofs.lemmas.List.{take_rest}
-use Rattle.gv_tokens.specs.Judging.{HasTokens}
+use Rattle.gv_text.specs.Judging.{HasTokens}
+use Rattle.gv_text.proofs.Cuts.{all_read}
 use Rattle.gv_tokens.specs.Layout.{laid}
 use Rattle.gv_tokens.specs.Reading.{go}
-use Rattle.gv_tokens.proofs.Cuts.{all_read}
 use Rattle.gv_tokens.proofs.GoPieces.{go_turned}
 use Rattle.gv_tokens.proofs.reading.tokens_of.Goals as goal
 

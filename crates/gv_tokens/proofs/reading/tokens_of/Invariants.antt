@@ -1,7 +1,7 @@
 use Rattle.std.proofs.Common.{◌-◌, length}
+use Rattle.gv_text.proofs.Cuts.{HasReadTo}
 use Rattle.gv_tokens.specs.Layout.{laid}
 use Rattle.gv_tokens.specs.Reading.{go}
-use Rattle.gv_tokens.proofs.Cuts.{HasReadTo}
 use Rattle.gv_tokens.proofs.reading.tokens_of.Given as goal
 
 abbrev pub invariant-loop-at : goal.invariant-loop-at

@@ -1,0 +1,12 @@
+pub mod Answers
+pub mod Bytes
+pub mod Cutting
+pub mod Digits
+pub mod Gaps
+pub mod Judging
+pub mod Lengths
+pub mod Scanning
+pub mod Signs
+pub mod Stops
+pub mod Tokens
+pub mod Unexpected
