@@ -1,9 +1,9 @@
 //! Reads a long block of the sample language, for bench/grammar to time: grammar_bench tokens|derive|read COUNT.
 #![tactic(auto)]
 
-use grammar_sample::sample_table::{
+use grammar_sample::generated::sample_table::{
     CLASS_ASSIGN, CLASS_BANG, CLASS_DOT, CLASS_IDENT, CLASS_L_BRACE, CLASS_L_PAREN, CLASS_NUMBER,
-    CLASS_PLUS, CLASS_R_BRACE, CLASS_R_PAREN, CLASS_SEMI, CLASS_STAR, sample_grammar,
+    CLASS_PLUS, CLASS_R_BRACE, CLASS_R_PAREN, CLASS_SEMI, CLASS_STAR, NAME_BLOCK, sample_grammar,
 };
 use grammar_sample::{Token, read};
 use gv_grammar::derive;
@@ -52,7 +52,7 @@ fn run(rt: &impl Print, alloc: Global, what: &str, count: usize) -> io::Result<(
             for token in &tokens {
                 classes.push(token.class)?;
             }
-            match derive(alloc, &sample_grammar(), &classes) {
+            match derive(alloc, &sample_grammar(), NAME_BLOCK, &classes) {
                 Ok(steps) => println!(rt; "{} tokens, {} steps", tokens.len(), steps.len()),
                 Err(fault) => println!(rt; "{} tokens, {fault:?}", tokens.len()),
             }

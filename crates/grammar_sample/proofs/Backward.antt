@@ -7,7 +7,7 @@ use Rattle.gv_grammar.specs.declared.symbols.Symbol.TheVariants.{Name as N}
 use Rattle.gv_grammar.specs.Derivation.{Spells as Derived, symbols_of}
 use Rattle.gv_grammar.specs.Text.{Placed, plain, opens, tokens_of, Spells}
 use Rattle.gv_grammar.proofs.Meaning.{Meant, none, taken, acted, means, RulesMean, all_mean, Made, mk, at, Phrase, Tail, meaning_at, one_class, more_classes}
-use Rattle.grammar_sample.specs.declared.sample_table.TheConstants.{CLASS_IDENT, CLASS_NUMBER, CLASS_FUNC, CLASS_L_PAREN, CLASS_R_PAREN, CLASS_COMMA, CLASS_SEMI, CLASS_ASSIGN, CLASS_DEFINE, CLASS_BANG, CLASS_PLUS, CLASS_MINUS, CLASS_STAR, CLASS_L_BRACE, CLASS_R_BRACE, CLASS_DOT, CLASS_IF, CLASS_ELSE, NAME_BLOCK, NAME_STMTS, NAME_AFTER, NAME_STMT, NAME_BRANCH, NAME_BRANCH_REST, NAME_OTHERWISE, NAME_OTHER, NAME_SIMPLE, NAME_DOTS, NAME_SPOT, NAME_RIGHT, NAME_RIGHT_DOTS, NAME_RIGHT_SPOT, NAME_SUM, NAME_SUM_TAIL, NAME_PRODUCT, NAME_PRODUCT_TAIL, NAME_UNARY, NAME_PRIM, NAME_CLOSED, NAME_SELECTS, NAME_ARGS, NAME_MORE_ARGS, RULE_BLOCK_BRACES, RULE_STMTS_SOME, RULE_STMTS_NONE, RULE_AFTER_MORE, RULE_AFTER_END, RULE_STMT_SIMPLE, RULE_STMT_BLOCK, RULE_STMT_BRANCH, RULE_BRANCH_CONDITION, RULE_BRANCH_REST_BODY, RULE_OTHERWISE_OTHER, RULE_OTHERWISE_NONE, RULE_OTHER_BLOCK, RULE_OTHER_BRANCH, RULE_SIMPLE_NAME, RULE_SIMPLE_CLOSED, RULE_DOTS_MEMBER, RULE_SPOT_MEMBER, RULE_SPOT_CALL, RULE_SPOT_ASSIGN, RULE_RIGHT_NOT, RULE_RIGHT_CLOSED, RULE_RIGHT_NAME, RULE_RIGHT_DOTS_MEMBER, RULE_RIGHT_DOTS_VALUE, RULE_RIGHT_SPOT_MEMBER, RULE_RIGHT_SPOT_CALL, RULE_RIGHT_SPOT_VALUE, RULE_SUM_PRODUCT, RULE_SUM_TAIL_MORE, RULE_SUM_TAIL_END, RULE_PRODUCT_UNARY, RULE_PRODUCT_TAIL_MORE, RULE_PRODUCT_TAIL_END, RULE_UNARY_NOT, RULE_UNARY_PRIM, RULE_PRIM_CLOSED, RULE_PRIM_NAME, RULE_CLOSED_NUMBER, RULE_CLOSED_APPLY, RULE_CLOSED_PAREN, RULE_SELECTS_MORE, RULE_SELECTS_END, RULE_ARGS_SOME, RULE_ARGS_NONE, RULE_MORE_ARGS_MORE, RULE_MORE_ARGS_END}
+use Rattle.grammar_sample.specs.declared.generated.sample_table.TheConstants.{CLASS_IDENT, CLASS_NUMBER, CLASS_FUNC, CLASS_L_PAREN, CLASS_R_PAREN, CLASS_COMMA, CLASS_SEMI, CLASS_ASSIGN, CLASS_DEFINE, CLASS_BANG, CLASS_PLUS, CLASS_MINUS, CLASS_STAR, CLASS_L_BRACE, CLASS_R_BRACE, CLASS_DOT, CLASS_IF, CLASS_ELSE, NAME_BLOCK, NAME_STMTS, NAME_AFTER, NAME_STMT, NAME_BRANCH, NAME_BRANCH_REST, NAME_OTHERWISE, NAME_OTHER, NAME_SIMPLE, NAME_DOTS, NAME_SPOT, NAME_RIGHT, NAME_RIGHT_DOTS, NAME_RIGHT_SPOT, NAME_SUM, NAME_SUM_TAIL, NAME_PRODUCT, NAME_PRODUCT_TAIL, NAME_UNARY, NAME_PRIM, NAME_CLOSED, NAME_SELECTS, NAME_ARGS, NAME_MORE_ARGS, RULE_BLOCK_BRACES, RULE_STMTS_SOME, RULE_STMTS_NONE, RULE_AFTER_MORE, RULE_AFTER_END, RULE_STMT_SIMPLE, RULE_STMT_BLOCK, RULE_STMT_BRANCH, RULE_BRANCH_CONDITION, RULE_BRANCH_REST_BODY, RULE_OTHERWISE_OTHER, RULE_OTHERWISE_NONE, RULE_OTHER_BLOCK, RULE_OTHER_BRANCH, RULE_SIMPLE_NAME, RULE_SIMPLE_CLOSED, RULE_DOTS_MEMBER, RULE_SPOT_MEMBER, RULE_SPOT_CALL, RULE_SPOT_ASSIGN, RULE_RIGHT_NOT, RULE_RIGHT_CLOSED, RULE_RIGHT_NAME, RULE_RIGHT_DOTS_MEMBER, RULE_RIGHT_DOTS_VALUE, RULE_RIGHT_SPOT_MEMBER, RULE_RIGHT_SPOT_CALL, RULE_RIGHT_SPOT_VALUE, RULE_SUM_PRODUCT, RULE_SUM_TAIL_MORE, RULE_SUM_TAIL_END, RULE_PRODUCT_UNARY, RULE_PRODUCT_TAIL_MORE, RULE_PRODUCT_TAIL_END, RULE_UNARY_NOT, RULE_UNARY_PRIM, RULE_PRIM_CLOSED, RULE_PRIM_NAME, RULE_CLOSED_NUMBER, RULE_CLOSED_APPLY, RULE_CLOSED_PAREN, RULE_SELECTS_MORE, RULE_SELECTS_END, RULE_ARGS_SOME, RULE_ARGS_NONE, RULE_MORE_ARGS_MORE, RULE_MORE_ARGS_END}
 use Rattle.grammar_sample.specs.declared.tree.Token.{Token}
 use Rattle.grammar_sample.specs.declared.tree.Expr.{Expr}
 use Rattle.grammar_sample.specs.declared.tree.Expr.TheVariants.{Name, Select, Not, Binary}
@@ -16,7 +16,7 @@ use Rattle.grammar_sample.specs.declared.tree.Stmt.{Stmt}
 use Rattle.grammar_sample.specs.declared.tree.Stmt.TheVariants.{Block, If}
 use Rattle.grammar_sample.specs.Tree.{named_as, left_as}
 use Rattle.grammar_sample.specs.SampleTable.{sample_tables}
-use Rattle.grammar_sample.specs.Language.{Is, IsPrim, number, name, apply, paren, select, IsUnary, not, prim, IsProduct, unary, times, IsSum, product, plus, IsArgs, no_args, some_args, IsList, one, more, IsReceiver, no_receiver, receiver, IsCall, call, IsLeft, variable, field, IsRight, value, result, IsStmt, assign, called, block, branch, IsBranch, only, otherwise, chain, IsBlock, braces, IsStmts, no_stmts, unclosed, closed, IsItems, first, next}
+use Rattle.grammar_sample.specs.Language.{Is, IsPrim, number, name, apply, paren, select, IsUnary, not, prim, IsProduct, unary, times, IsSum, product, plus, IsArgs, no_args, some_args, IsList, one, more, IsReceiver, no_receiver, receiver, IsCall, call, IsLeft, variable, field, IsRight, value, result, IsStmt, assign, called, block, branch, IsBranch, only, otherwise, chain, IsBlock, braces, IsExpression, expression, IsStmts, no_stmts, unclosed, closed, IsItems, first, next}
 
 -- a name, maybe of something
 data IsHead : ℕ → Option Expr → ℕ → ℕ → List (Placed Token) → Type 0 where
@@ -320,9 +320,16 @@ more_args_end _ none n es xs h = mk (IsList n) _ _ h (simp append-nil)
 all_rules : RulesMean sample_tables Token (λ token. token.class) M sample_tables.names 0
 all_rules = (block_braces, (stmts_some, (stmts_none, (after_more, (after_end, (stmt_simple, (stmt_block, (stmt_branch, (branch_condition, (branch_rest_body, (otherwise_other, (otherwise_none, (other_block, (other_branch, (simple_name, (simple_closed, (dots_member, (spot_member, (spot_call, (spot_assign, (right_not, (right_closed, (right_name, (right_dots_member, (right_dots_value, (right_spot_member, (right_spot_call, (right_spot_value, (sum_product, (sum_tail_more, (sum_tail_end, (product_unary, (product_tail_more, (product_tail_end, (unary_not, (unary_prim, (prim_closed, (prim_name, (closed_number, (closed_apply, (closed_paren, (selects_more, (selects_end, (args_some, (args_none, (more_args_more, (more_args_end, tt)))))))))))))))))))))))))))))))))))))))))))))))
 
--- what the first name derives is a block
-pub whole_means : (level : ℕ) (steps : List Step) (us : List Token) → Derived sample_tables steps (map (λ token. token.class) us) → (ss : List Stmt) × Spells (IsBlock level) ss us
+-- what the name of blocks derives is a block
+pub whole_means : (level : ℕ) (steps : List Step) (us : List Token) → Derived sample_tables NAME_BLOCK steps (map (λ token. token.class) us) → (ss : List Stmt) × Spells (IsBlock level) ss us
 whole_means level steps us d = go us (all_mean sample_tables Token (λ token. token.class) M all_rules d us refl)
   where
     go : (us : List Token) → Meant sample_tables Token (λ token. token.class) M (N NAME_BLOCK ∷ []) us → (ss : List Stmt) × Spells (IsBlock level) ss us
     go _ (means {ts = ts} m none) = let a = m level in (a.tree, record { placed = a.placed; same = a.same ∙ sym (append-nil ts); derived = a.spelled })
+
+-- and what that of sums derives is an expression
+pub expression_means : (level : ℕ) (steps : List Step) (us : List Token) → Derived sample_tables NAME_SUM steps (map (λ token. token.class) us) → (e : Expr) × Spells (IsExpression level) e us
+expression_means level steps us d = go us (all_mean sample_tables Token (λ token. token.class) M all_rules d us refl)
+  where
+    go : (us : List Token) → Meant sample_tables Token (λ token. token.class) M (N NAME_SUM ∷ []) us → (e : Expr) × Spells (IsExpression level) e us
+    go _ (means {ts = ts} m none) = let a = m level in (a.tree.0, record { placed = a.placed; same = a.same ∙ sym (append-nil ts); derived = expression a.spelled })

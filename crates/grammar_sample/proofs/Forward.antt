@@ -8,9 +8,9 @@ use Rattle.gv_grammar.specs.Derivation.{done}
 use Rattle.gv_grammar.specs.Building.{act_of}
 use Rattle.gv_grammar.specs.Text.{Placed, plain, opens}
 use Rattle.gv_grammar.proofs.Spelling.{Reading, tk, tk_in, op, op_in, sv, rs, ac, ru, late_mark, late_rule, late_token, re, one_of_two}
-use Rattle.grammar_sample.specs.declared.sample_table.TheConstants.{CLASS_IDENT, CLASS_NUMBER, CLASS_FUNC, CLASS_L_PAREN, CLASS_R_PAREN, CLASS_COMMA, CLASS_SEMI, CLASS_ASSIGN, CLASS_DEFINE, CLASS_BANG, CLASS_PLUS, CLASS_MINUS, CLASS_STAR, CLASS_L_BRACE, CLASS_R_BRACE, CLASS_DOT, CLASS_IF, CLASS_ELSE, SET_ADD_OP, SET_ASSIGN_OP, SET_L_BRACE, SET_R_BRACE, SET_SEMI, SET_IF, SET_ELSE, SET_IDENT, SET_DOT, SET_L_PAREN, SET_R_PAREN, SET_BANG, SET_STAR, SET_NUMBER, SET_FUNC, SET_COMMA, NAME_BLOCK, NAME_STMTS, NAME_AFTER, NAME_STMT, NAME_BRANCH_REST, NAME_OTHERWISE, NAME_SIMPLE, NAME_DOTS, NAME_SPOT, NAME_RIGHT, NAME_RIGHT_DOTS, NAME_RIGHT_SPOT, NAME_SUM, NAME_SUM_TAIL, NAME_PRODUCT, NAME_PRODUCT_TAIL, NAME_UNARY, NAME_PRIM, NAME_CLOSED, NAME_SELECTS, NAME_ARGS, NAME_MORE_ARGS, ACT_BEGIN, ACT_BLOCK, ACT_ADD, ACT_SEPARATED, ACT_NESTED, ACT_IF, ACT_IF_ELSE, ACT_HEAD, ACT_NUMBER, ACT_NONE, ACT_APPLY, ACT_PAREN, ACT_MEMBER, ACT_MORE, ACT_CALL, ACT_CALLED, ACT_ASSIGN, ACT_NOT, ACT_VALUE, ACT_CALL_VALUE, ACT_OPERAND, ACT_BINARY, ACT_NAME, ACT_SELECT, ACT_FIRST, ACT_NEXT, RULE_BLOCK_BRACES, RULE_STMTS_SOME, RULE_STMTS_NONE, RULE_AFTER_MORE, RULE_AFTER_END, RULE_STMT_SIMPLE, RULE_STMT_BLOCK, RULE_STMT_BRANCH, RULE_BRANCH_CONDITION, RULE_BRANCH_REST_BODY, RULE_OTHERWISE_OTHER, RULE_OTHERWISE_NONE, RULE_OTHER_BLOCK, RULE_OTHER_BRANCH, RULE_SIMPLE_NAME, RULE_SIMPLE_CLOSED, RULE_DOTS_MEMBER, RULE_SPOT_MEMBER, RULE_SPOT_CALL, RULE_SPOT_ASSIGN, RULE_RIGHT_NOT, RULE_RIGHT_CLOSED, RULE_RIGHT_NAME, RULE_RIGHT_DOTS_MEMBER, RULE_RIGHT_DOTS_VALUE, RULE_RIGHT_SPOT_MEMBER, RULE_RIGHT_SPOT_CALL, RULE_RIGHT_SPOT_VALUE, RULE_SUM_PRODUCT, RULE_SUM_TAIL_MORE, RULE_SUM_TAIL_END, RULE_PRODUCT_UNARY, RULE_PRODUCT_TAIL_MORE, RULE_PRODUCT_TAIL_END, RULE_UNARY_NOT, RULE_UNARY_PRIM, RULE_PRIM_CLOSED, RULE_PRIM_NAME, RULE_CLOSED_NUMBER, RULE_CLOSED_APPLY, RULE_CLOSED_PAREN, RULE_SELECTS_MORE, RULE_SELECTS_END, RULE_ARGS_SOME, RULE_ARGS_NONE, RULE_MORE_ARGS_MORE, RULE_MORE_ARGS_END}
-use Rattle.grammar_sample.specs.declared.sample_acts.Part.{Part}
-use Rattle.grammar_sample.specs.declared.sample_acts.Part.TheVariants.{Token as PToken, Expr as PExpr, Args as PArgs, Head as PHead, Call as PCall, Right as PRight, Stmt as PStmt, Stmts as PStmts}
+use Rattle.grammar_sample.specs.declared.generated.sample_table.TheConstants.{CLASS_IDENT, CLASS_NUMBER, CLASS_FUNC, CLASS_L_PAREN, CLASS_R_PAREN, CLASS_COMMA, CLASS_SEMI, CLASS_ASSIGN, CLASS_DEFINE, CLASS_BANG, CLASS_PLUS, CLASS_MINUS, CLASS_STAR, CLASS_L_BRACE, CLASS_R_BRACE, CLASS_DOT, CLASS_IF, CLASS_ELSE, SET_ADD_OP, SET_ASSIGN_OP, SET_L_BRACE, SET_R_BRACE, SET_SEMI, SET_IF, SET_ELSE, SET_IDENT, SET_DOT, SET_L_PAREN, SET_R_PAREN, SET_BANG, SET_STAR, SET_NUMBER, SET_FUNC, SET_COMMA, NAME_BLOCK, NAME_STMTS, NAME_AFTER, NAME_STMT, NAME_BRANCH_REST, NAME_OTHERWISE, NAME_SIMPLE, NAME_DOTS, NAME_SPOT, NAME_RIGHT, NAME_RIGHT_DOTS, NAME_RIGHT_SPOT, NAME_SUM, NAME_SUM_TAIL, NAME_PRODUCT, NAME_PRODUCT_TAIL, NAME_UNARY, NAME_PRIM, NAME_CLOSED, NAME_SELECTS, NAME_ARGS, NAME_MORE_ARGS, ACT_BEGIN, ACT_BLOCK, ACT_ADD, ACT_SEPARATED, ACT_NESTED, ACT_IF, ACT_IF_ELSE, ACT_HEAD, ACT_NUMBER, ACT_NONE, ACT_APPLY, ACT_PAREN, ACT_MEMBER, ACT_MORE, ACT_CALL, ACT_CALLED, ACT_ASSIGN, ACT_NOT, ACT_VALUE, ACT_CALL_VALUE, ACT_OPERAND, ACT_BINARY, ACT_NAME, ACT_SELECT, ACT_FIRST, ACT_NEXT, RULE_BLOCK_BRACES, RULE_STMTS_SOME, RULE_STMTS_NONE, RULE_AFTER_MORE, RULE_AFTER_END, RULE_STMT_SIMPLE, RULE_STMT_BLOCK, RULE_STMT_BRANCH, RULE_BRANCH_CONDITION, RULE_BRANCH_REST_BODY, RULE_OTHERWISE_OTHER, RULE_OTHERWISE_NONE, RULE_OTHER_BLOCK, RULE_OTHER_BRANCH, RULE_SIMPLE_NAME, RULE_SIMPLE_CLOSED, RULE_DOTS_MEMBER, RULE_SPOT_MEMBER, RULE_SPOT_CALL, RULE_SPOT_ASSIGN, RULE_RIGHT_NOT, RULE_RIGHT_CLOSED, RULE_RIGHT_NAME, RULE_RIGHT_DOTS_MEMBER, RULE_RIGHT_DOTS_VALUE, RULE_RIGHT_SPOT_MEMBER, RULE_RIGHT_SPOT_CALL, RULE_RIGHT_SPOT_VALUE, RULE_SUM_PRODUCT, RULE_SUM_TAIL_MORE, RULE_SUM_TAIL_END, RULE_PRODUCT_UNARY, RULE_PRODUCT_TAIL_MORE, RULE_PRODUCT_TAIL_END, RULE_UNARY_NOT, RULE_UNARY_PRIM, RULE_PRIM_CLOSED, RULE_PRIM_NAME, RULE_CLOSED_NUMBER, RULE_CLOSED_APPLY, RULE_CLOSED_PAREN, RULE_SELECTS_MORE, RULE_SELECTS_END, RULE_ARGS_SOME, RULE_ARGS_NONE, RULE_MORE_ARGS_MORE, RULE_MORE_ARGS_END}
+use Rattle.grammar_sample.specs.declared.generated.sample_acts.Part.{Part}
+use Rattle.grammar_sample.specs.declared.generated.sample_acts.Part.TheVariants.{Token as PToken, Expr as PExpr, Args as PArgs, Head as PHead, Call as PCall, Right as PRight, Stmt as PStmt, Stmts as PStmts}
 use Rattle.grammar_sample.specs.declared.tree.Token.{Token}
 use Rattle.grammar_sample.specs.declared.tree.Expr.{Expr}
 use Rattle.grammar_sample.specs.declared.tree.Expr.TheVariants.{Select}
@@ -20,15 +20,15 @@ use Rattle.grammar_sample.specs.declared.tree.Right.{Right}
 use Rattle.grammar_sample.specs.declared.tree.Stmt.{Stmt}
 use Rattle.grammar_sample.specs.Tree.{named_as, left_as}
 use Rattle.grammar_sample.specs.SampleTable.{sample_tables}
-use Rattle.grammar_sample.specs.SampleActs.{kind_of, acts}
-use Rattle.grammar_sample.specs.Language.{Is, IsPrim, number, name, apply, paren, select, IsUnary, not, prim, IsProduct, unary, times, IsSum, product, plus, IsArgs, no_args, some_args, IsList, one, more, no_receiver, receiver, IsCall, call, IsLeft, variable, field, IsRight, value, result, IsStmt, assign, called, block, branch, IsBranch, only, otherwise, chain, IsBlock, braces, IsStmts, no_stmts, unclosed, closed, IsItems, first, next}
+use Rattle.grammar_sample.specs.SampleActs.{sample_acts}
+use Rattle.grammar_sample.specs.Language.{Is, IsPrim, number, name, apply, paren, select, IsUnary, not, prim, IsProduct, unary, times, IsSum, product, plus, IsArgs, no_args, some_args, IsList, one, more, no_receiver, receiver, IsCall, call, IsLeft, variable, field, IsRight, value, result, IsStmt, assign, called, block, branch, IsBranch, only, otherwise, chain, IsBlock, IsExpression, expression, braces, IsStmts, no_stmts, unclosed, closed, IsItems, first, next}
 
 abbrev Parts : Type 0
 Parts = List Part
 
 -- a reading of the sample language
 abbrev pub Read : List Symbol → List (Placed Token) → ℕ → List ℕ → Parts → Option Parts → Type 0
-Read = Reading sample_tables (λ token. token.class) PToken (act_of kind_of acts)
+Read = Reading sample_tables (λ token. token.class) PToken (act_of sample_acts)
 
 -- a call's list regrouped
 call_grouped : {ss : List Symbol} {n : ℕ} (m l : ℕ) {kept : List ℕ} {parts : Parts} {final : Option Parts} (dot x o c : Token) (ts vs us : List (Placed Token))
@@ -241,3 +241,9 @@ pub whole_reads : (level : ℕ) (ss : List Stmt) (ts : List (Placed Token)) → 
 whole_reads level ss ts d =
     subst (λ (us : List (Placed Token)). Read (N NAME_BLOCK ∷ []) us level [] [] (Some (PStmts ss ∷ []))) (append-nil ts)
     (block_reads d (record { steps = []; derives = done; runs = refl; levels = λ limit at. refl }))
+
+-- an expression by itself
+pub expression_reads : (level : ℕ) (e : Expr) (ts : List (Placed Token)) → IsExpression level e ts → Read (N NAME_SUM ∷ []) ts level [] [] (Some (PExpr e ∷ []))
+expression_reads level e ts (expression d) =
+    subst (λ (us : List (Placed Token)). Read (N NAME_SUM ∷ []) us level [] [] (Some (PExpr e ∷ []))) (append-nil ts)
+    (sum_reads d (ru RULE_SUM_TAIL_END refl (record { steps = []; derives = done; runs = refl; levels = λ limit at. refl })))

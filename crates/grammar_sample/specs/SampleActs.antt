@@ -1,23 +1,46 @@
 -- What each act makes of the parts, the top one first. Made by tools/grammar.py from sample.grammar: edit that.
-use Rattle.std.specs.Prelude.{ℕ, List, [], ◌∷◌, ◌++◌, Some, None}
-use Rattle.gv_grammar.specs.Building.{Reduction}
-use Rattle.grammar_sample.specs.declared.sample_acts.Part.{Part}
-use Rattle.grammar_sample.specs.declared.sample_acts.Part.TheVariants.{Token as PToken, Expr as PExpr, Args as PArgs, Head as PHead, Call as PCall, Right as PRight, Stmt as PStmt, Stmts as PStmts}
-use Rattle.grammar_sample.specs.declared.sample_acts.TheConstants.{KIND_TOKEN, KIND_EXPR, KIND_ARGS, KIND_HEAD, KIND_CALL, KIND_RIGHT, KIND_STMT, KIND_STMTS}
+use Rattle.std.specs.Prelude.{Bool, true, false, List, [], ◌∷◌, ◌++◌, Some, None, Option}
+use Rattle.gv_grammar.specs.declared.steps.Step.{Step}
+use Rattle.gv_grammar.specs.Building.{Reduction, act_of, run}
+use Rattle.grammar_sample.specs.declared.generated.sample_acts.Part.{Part}
+use Rattle.grammar_sample.specs.declared.generated.sample_acts.Part.TheVariants.{Token as PToken, Expr as PExpr, Args as PArgs, Head as PHead, Call as PCall, Right as PRight, Stmt as PStmt, Stmts as PStmts}
+use Rattle.grammar_sample.specs.declared.tree.Token.{Token}
 use Rattle.grammar_sample.specs.declared.tree.Expr.TheVariants.{Number, Name, Apply, Select, Not, Binary}
 use Rattle.grammar_sample.specs.declared.tree.Right.TheVariants.{Value, Result}
 use Rattle.grammar_sample.specs.declared.tree.Stmt.TheVariants.{Assign, Called, Block, If}
 use Rattle.grammar_sample.specs.Tree.{named_by, left_by}
 
-abbrev pub kind_of : Part → ℕ
-kind_of (PToken of) = KIND_TOKEN
-kind_of (PExpr of) = KIND_EXPR
-kind_of (PArgs of) = KIND_ARGS
-kind_of (PHead of) = KIND_HEAD
-kind_of (PCall of) = KIND_CALL
-kind_of (PRight of) = KIND_RIGHT
-kind_of (PStmt of) = KIND_STMT
-kind_of (PStmts of) = KIND_STMTS
+abbrev pub is_token : Part → Bool
+is_token (PToken of) = true
+is_token part = false
+
+abbrev pub is_expr : Part → Bool
+is_expr (PExpr of) = true
+is_expr part = false
+
+abbrev pub is_args : Part → Bool
+is_args (PArgs of) = true
+is_args part = false
+
+abbrev pub is_head : Part → Bool
+is_head (PHead of) = true
+is_head part = false
+
+abbrev pub is_call : Part → Bool
+is_call (PCall of) = true
+is_call part = false
+
+abbrev pub is_right : Part → Bool
+is_right (PRight of) = true
+is_right part = false
+
+abbrev pub is_stmt : Part → Bool
+is_stmt (PStmt of) = true
+is_stmt part = false
+
+abbrev pub is_stmts : Part → Bool
+is_stmts (PStmts of) = true
+is_stmts part = false
 
 abbrev pub made_begin : List Part → List Part
 made_begin parts = PStmts ([]) ∷ parts
@@ -122,32 +145,36 @@ made_next (PExpr last ∷ PToken _ ∷ PArgs arguments ∷ parts) = PArgs (argum
 made_next parts = parts
 
 -- the acts, from the first number behind the marks on
-abbrev pub acts : List (Reduction Part)
-acts =
+abbrev pub sample_acts : List (Reduction Part)
+sample_acts =
     record { takes = []; makes = made_begin }
-    ∷ record { takes = KIND_TOKEN ∷ KIND_STMTS ∷ KIND_TOKEN ∷ []; makes = made_block }
-    ∷ record { takes = KIND_STMT ∷ KIND_STMTS ∷ []; makes = made_add }
-    ∷ record { takes = KIND_TOKEN ∷ KIND_STMTS ∷ []; makes = made_separated }
-    ∷ record { takes = KIND_STMTS ∷ []; makes = made_nested }
-    ∷ record { takes = KIND_STMTS ∷ KIND_EXPR ∷ KIND_TOKEN ∷ []; makes = made_if }
-    ∷ record { takes = KIND_STMT ∷ KIND_TOKEN ∷ KIND_STMTS ∷ KIND_EXPR ∷ KIND_TOKEN ∷ []; makes = made_if_else }
-    ∷ record { takes = KIND_TOKEN ∷ []; makes = made_head }
-    ∷ record { takes = KIND_TOKEN ∷ []; makes = made_number }
+    ∷ record { takes = is_token ∷ is_stmts ∷ is_token ∷ []; makes = made_block }
+    ∷ record { takes = is_stmt ∷ is_stmts ∷ []; makes = made_add }
+    ∷ record { takes = is_token ∷ is_stmts ∷ []; makes = made_separated }
+    ∷ record { takes = is_stmts ∷ []; makes = made_nested }
+    ∷ record { takes = is_stmts ∷ is_expr ∷ is_token ∷ []; makes = made_if }
+    ∷ record { takes = is_stmt ∷ is_token ∷ is_stmts ∷ is_expr ∷ is_token ∷ []; makes = made_if_else }
+    ∷ record { takes = is_token ∷ []; makes = made_head }
+    ∷ record { takes = is_token ∷ []; makes = made_number }
     ∷ record { takes = []; makes = made_none }
-    ∷ record { takes = KIND_TOKEN ∷ KIND_ARGS ∷ KIND_TOKEN ∷ KIND_TOKEN ∷ []; makes = made_apply }
-    ∷ record { takes = KIND_TOKEN ∷ KIND_EXPR ∷ KIND_TOKEN ∷ []; makes = made_paren }
-    ∷ record { takes = KIND_TOKEN ∷ KIND_TOKEN ∷ KIND_EXPR ∷ []; makes = made_member }
-    ∷ record { takes = KIND_TOKEN ∷ KIND_TOKEN ∷ KIND_HEAD ∷ []; makes = made_more }
-    ∷ record { takes = KIND_TOKEN ∷ KIND_ARGS ∷ KIND_TOKEN ∷ KIND_HEAD ∷ []; makes = made_call }
-    ∷ record { takes = KIND_CALL ∷ []; makes = made_called }
-    ∷ record { takes = KIND_RIGHT ∷ KIND_TOKEN ∷ KIND_HEAD ∷ []; makes = made_assign }
-    ∷ record { takes = KIND_EXPR ∷ KIND_TOKEN ∷ []; makes = made_not }
-    ∷ record { takes = KIND_EXPR ∷ []; makes = made_value }
-    ∷ record { takes = KIND_CALL ∷ []; makes = made_call_value }
-    ∷ record { takes = KIND_HEAD ∷ []; makes = made_operand }
-    ∷ record { takes = KIND_EXPR ∷ KIND_TOKEN ∷ KIND_EXPR ∷ []; makes = made_binary }
-    ∷ record { takes = KIND_TOKEN ∷ []; makes = made_name }
-    ∷ record { takes = KIND_TOKEN ∷ KIND_TOKEN ∷ KIND_EXPR ∷ []; makes = made_select }
-    ∷ record { takes = KIND_EXPR ∷ KIND_ARGS ∷ []; makes = made_first }
-    ∷ record { takes = KIND_EXPR ∷ KIND_TOKEN ∷ KIND_ARGS ∷ []; makes = made_next }
+    ∷ record { takes = is_token ∷ is_args ∷ is_token ∷ is_token ∷ []; makes = made_apply }
+    ∷ record { takes = is_token ∷ is_expr ∷ is_token ∷ []; makes = made_paren }
+    ∷ record { takes = is_token ∷ is_token ∷ is_expr ∷ []; makes = made_member }
+    ∷ record { takes = is_token ∷ is_token ∷ is_head ∷ []; makes = made_more }
+    ∷ record { takes = is_token ∷ is_args ∷ is_token ∷ is_head ∷ []; makes = made_call }
+    ∷ record { takes = is_call ∷ []; makes = made_called }
+    ∷ record { takes = is_right ∷ is_token ∷ is_head ∷ []; makes = made_assign }
+    ∷ record { takes = is_expr ∷ is_token ∷ []; makes = made_not }
+    ∷ record { takes = is_expr ∷ []; makes = made_value }
+    ∷ record { takes = is_call ∷ []; makes = made_call_value }
+    ∷ record { takes = is_head ∷ []; makes = made_operand }
+    ∷ record { takes = is_expr ∷ is_token ∷ is_expr ∷ []; makes = made_binary }
+    ∷ record { takes = is_token ∷ []; makes = made_name }
+    ∷ record { takes = is_token ∷ is_token ∷ is_expr ∷ []; makes = made_select }
+    ∷ record { takes = is_expr ∷ is_args ∷ []; makes = made_first }
+    ∷ record { takes = is_expr ∷ is_token ∷ is_args ∷ []; makes = made_next }
     ∷ []
+
+-- the parts that steps leave of tokens
+abbrev pub sample_built : List Step → List Token → Option (List Part)
+sample_built steps tokens = run PToken (act_of sample_acts) steps tokens []

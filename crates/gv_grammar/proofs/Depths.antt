@@ -5,7 +5,7 @@ use Rattle.gv_grammar.specs.declared.symbols.Symbol.{Symbol}
 use Rattle.gv_grammar.specs.declared.steps.Step.{Step}
 use Rattle.gv_grammar.specs.declared.steps.Step.TheVariants.{Take, Do}
 use Rattle.gv_grammar.specs.Derivation.{Tables, Derives, Spells, done, token, act, named, symbols_of}
-use Rattle.gv_grammar.specs.Predictive.{Certificate, is_predictive, certificate_of, is_shown_by, entry}
+use Rattle.gv_grammar.specs.Predictive.{Certificate, MayBegin, certificate_of, is_shown_by, entry}
 use Rattle.gv_grammar.specs.Engine.{look, IsSound}
 use Rattle.gv_grammar.specs.declared.levels.TheConstants.{OPEN, SAVE, RESTORE, OPEN_BEFORE}
 use Rattle.gv_grammar.specs.Levels.{deep_from, takes_in, top, below_top}
@@ -153,7 +153,7 @@ module _ (g : Tables) (c : Certificate) (shown : is_shown_by g c ≡ true) where
       let r : rule' ≡ rule = omega (arith, a, b, q) in
       agree_from (k ∷ front) us vs (sound_rule g c shown rule name more n s) d e (subst (λ (y : ℕ). Derives g (symbols_of g y ++ more) qs ls) r d') e' limit level saved at x f l
 
--- the same from the first name on
-pub agree : (g : Tables) → is_predictive g ≡ true → (front us vs : List ℕ) (ps qs : List Step) → Spells g ps (front ++ us) → Spells g qs (front ++ vs)
+-- the same from a root on
+pub agree : (g : Tables) (root : ℕ) → MayBegin g root → (front us vs : List ℕ) (ps qs : List Step) → Spells g root ps (front ++ us) → Spells g root qs (front ++ vs)
     → (limit level : ℕ) (x : ℕ × ℕ) → told_from limit level [] 0 ps ≡ Some x → x.1 < length front → told_from limit level [] 0 qs ≡ Some x
-agree g p front us vs ps qs d d' limit level x f l = agree_from g (certificate_of g) (shown_of g p) front us vs (sound_start g (certificate_of g) (shown_of g p)) d refl d' refl limit level [] 0 x f (omega (arith, l))
+agree g root p front us vs ps qs d d' limit level x f l = agree_from g (certificate_of g) (shown_of g p.0) front us vs (sound_start g (certificate_of g) (shown_of g p.0) root p.1) d refl d' refl limit level [] 0 x f (omega (arith, l))

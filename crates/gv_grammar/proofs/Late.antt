@@ -8,7 +8,7 @@ use Rattle.gv_grammar.specs.declared.steps.Step.{Step}
 use Rattle.gv_grammar.specs.declared.steps.Step.TheVariants.{Take, Do}
 use Rattle.gv_grammar.specs.declared.levels.TheConstants.{OPEN, SAVE, RESTORE, OPEN_BEFORE}
 use Rattle.gv_grammar.specs.Derivation.{Tables, Derives, Spells, done, token, act, named, symbols_of, takes}
-use Rattle.gv_grammar.specs.Predictive.{Certificate, is_predictive, certificate_of, is_shown_by, is_prompt, are_prompt, has_token_first, shows_late}
+use Rattle.gv_grammar.specs.Predictive.{Certificate, MayBegin, certificate_of, is_shown_by, is_prompt, are_prompt, has_token_first, shows_late}
 use Rattle.gv_grammar.specs.Engine.{IsSound}
 use Rattle.gv_grammar.specs.Levels.{takes_in, top, below_top}
 use Rattle.gv_grammar.proofs.Tests.{both, all_append}
@@ -90,10 +90,10 @@ module _ (g : Tables) (c : Certificate) (shown : is_shown_by g c ≡ true) where
       let (qs, vs, d', a) = settle_from (k ∷ front) rest (sound_rule g c shown rule name more n s) (shows_append (symbols_of g rule) more f.late h) none d e in
       (qs, vs, named rule n d', a)
 
-pub settle : (g : Tables) → is_predictive g ≡ true → (front rest : List ℕ) (ps : List Step) → Spells g ps (front ++ rest)
-    → (qs : List Step) × (vs : List ℕ) × Spells g qs (front ++ vs) × ((steps after : List Step) → qs ≡ steps ++ after → takes_in steps ≡ length front → prompt_front after ≡ true)
-settle g p front rest ps d =
-    let (qs, vs, d', a) = settle_from g (certificate_of g) (shown_of g p) front rest (sound_start g (certificate_of g) (shown_of g p)) refl (λ _. refl) d refl in
+pub settle : (g : Tables) (root : ℕ) → MayBegin g root → (front rest : List ℕ) (ps : List Step) → Spells g root ps (front ++ rest)
+    → (qs : List Step) × (vs : List ℕ) × Spells g root qs (front ++ vs) × ((steps after : List Step) → qs ≡ steps ++ after → takes_in steps ≡ length front → prompt_front after ≡ true)
+settle g root p front rest ps d =
+    let (qs, vs, d', a) = settle_from g (certificate_of g) (shown_of g p.0) front rest (sound_start g (certificate_of g) (shown_of g p.0) root p.1) refl (λ _. refl) d refl in
     let q : (steps after : List Step) → qs ≡ steps ++ after → takes_in steps ≡ length front → prompt_front after ≡ true =
     λ steps after e t. prompt_rest steps after (length front) (sym t) (subst (λ (xs : List Step). prompt_after (length front) xs ≡ true) e a) in
     (qs, vs, d', q)
@@ -184,6 +184,6 @@ module _ (g : Tables) (c : Certificate) (shown : is_shown_by g c ≡ true) where
       let f = rule_facts g c shown rule name n in
       shown_from (shows_append (symbols_of g rule) more f.late h) d limit level saved at x e l
 
-pub shown_within : (g : Tables) → is_predictive g ≡ true → (ps : List Step) (us : List ℕ) → Spells g ps us → (limit level : ℕ) (x : ℕ × ℕ) → told_from limit level [] 0 ps ≡ Some x → x.0 < x.1 → x.1 < length us
-shown_within g p ps us d limit level x e l =
-    let b = shown_from g (certificate_of g) (shown_of g p) refl d limit level [] 0 x e l in omega (arith, b)
+pub shown_within : (g : Tables) (root : ℕ) → MayBegin g root → (ps : List Step) (us : List ℕ) → Spells g root ps us → (limit level : ℕ) (x : ℕ × ℕ) → told_from limit level [] 0 ps ≡ Some x → x.0 < x.1 → x.1 < length us
+shown_within g root p ps us d limit level x e l =
+    let b = shown_from g (certificate_of g) (shown_of g p.0) refl d limit level [] 0 x e l in omega (arith, b)

@@ -8,7 +8,7 @@ use Rattle.gv_grammar.specs.declared.symbols.Symbol.{Symbol}
 use Rattle.gv_grammar.specs.declared.symbols.Symbol.TheVariants.{Token, Name, Act}
 use Rattle.gv_grammar.specs.declared.steps.Step.{Step}
 use Rattle.gv_grammar.specs.Derivation.{Tables, Derives, done, token, act, named, is_among, members, symbols_of}
-use Rattle.gv_grammar.specs.Predictive.{Certificate, row, is_empty, empties, beginnings, reach, follows_hold, is_known, predicts, entry, rule_holds, is_shown_by, is_within, closes, shows_late}
+use Rattle.gv_grammar.specs.Predictive.{Certificate, row, is_empty, empties, beginnings, reach, follows_hold, is_known, predicts, entry, rule_holds, root_holds, is_shown_by, is_within, closes, shows_late}
 use Rattle.gv_grammar.specs.Engine.{look, Begins, Fits, IsSound}
 use Rattle.gv_grammar.proofs.Tests.{both, either_left, either_right, then_so, among_append, within_among, all_among, all_append, all_at}
 
@@ -66,8 +66,7 @@ module _ (g : Tables) (c : Certificate) where
 
   -- what the whole test says
   pub record ShownFacts : Type 0 where
-    pub first_name : nat_lt 0 (length c.closing) ≡ true
-    pub end : is_among 0 (row c.follow 0) ≡ true
+    pub roots : list_all (root_holds g c) g.roots ≡ true
     pub rules : list_all (rule_holds g c) (enumerate_from 0 g.names) ≡ true
     pub closing : list_all (closes g c) (enumerate_from 0 c.closing) ≡ true
 
@@ -75,10 +74,9 @@ module _ (g : Tables) (c : Certificate) where
   shown_facts shown =
       let rules = list_all (rule_holds g c) (enumerate_from 0 g.names) in
       let closing = list_all (closes g c) (enumerate_from 0 c.closing) in
-      let h1 = both (nat_lt 0 (length c.closing)) (is_among 0 (row c.follow 0) && (rules && closing)) shown in
-      let h2 = both (is_among 0 (row c.follow 0)) (rules && closing) h1.1 in
-      let h3 = both rules closing h2.1 in
-      record { first_name = h1.0; end = h2.0; rules = h3.0; closing = h3.1 }
+      let h1 = both (list_all (root_holds g c) g.roots) (rules && closing) shown in
+      let h2 = both rules closing h1.1 in
+      record { roots = h1.0; rules = h2.0; closing = h2.1 }
 
   module _ (shown : is_shown_by g c ≡ true) where
     pub rule_facts : (rule name : ℕ) → slice_get g.names rule ≡ Some name → RuleFacts rule name
@@ -174,8 +172,8 @@ module _ (g : Tables) (c : Certificate) where
         → (rule : ℕ) × (slice_get g.names rule ≡ Some name) × (entry g name (look us) ≡ rule + 1) × Derives g (symbols_of g rule ++ more) ps us
     decided name more ps us s (named rule n d) = (rule, n, entry_of rule name more ps us s n d, d)
 
-    -- the first name alone
-    pub sound_start : IsSound g c (Name 0 ∷ [])
-    sound_start =
-        let f = shown_facts shown in
-        record { fits = (λ k b. subst (λ (j : ℕ). is_among j (row c.follow 0) ≡ true) (sym b) f.end, tt); known = rw (f.first_name) refl }
+    -- a root alone
+    pub sound_start : (root : ℕ) → is_among root g.roots ≡ true → IsSound g c (Name root ∷ [])
+    sound_start root i =
+        let h = both (nat_lt root (length c.closing)) (is_among 0 (row c.follow root)) (all_among (root_holds g c) root g.roots (shown_facts shown).roots i) in
+        record { fits = (λ k b. subst (λ (j : ℕ). is_among j (row c.follow root) ≡ true) (sym b) h.1, tt); known = rw (h.0) refl }

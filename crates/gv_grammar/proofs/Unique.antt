@@ -6,7 +6,7 @@ use Rattle.gv_grammar.specs.declared.symbols.Symbol.{Symbol}
 use Rattle.gv_grammar.specs.declared.steps.Step.{Step}
 use Rattle.gv_grammar.specs.declared.steps.Step.TheVariants.{Take, Do}
 use Rattle.gv_grammar.specs.Derivation.{Tables, Derives, Spells, done, token, act, named, symbols_of, is_among}
-use Rattle.gv_grammar.specs.Predictive.{Certificate, is_predictive, certificate_of, is_shown_by}
+use Rattle.gv_grammar.specs.Predictive.{Certificate, MayBegin, certificate_of, is_shown_by}
 use Rattle.gv_grammar.specs.Engine.{IsSound}
 use Rattle.gv_grammar.proofs.Tests.{either_left, either_right, either}
 use Rattle.gv_grammar.proofs.Theory.{entry_of, sound_token, sound_act, sound_rule, sound_start}
@@ -23,8 +23,8 @@ module _ (g : Tables) (c : Certificate) (shown : is_shown_by g c ≡ true) where
       let r : rule' ≡ rule = omega (arith, a, b) in
       one_from (sound_rule g c shown rule name more n s) d (subst (λ (y : ℕ). Derives g (symbols_of g y ++ more) qs us) r d')
 
-pub one_derivation : (g : Tables) → is_predictive g ≡ true → (ps qs : List Step) (us : List ℕ) → Spells g ps us → Spells g qs us → ps ≡ qs
-one_derivation g p ps qs us d d' = one_from g (certificate_of g) (shown_of g p) (sound_start g (certificate_of g) (shown_of g p)) d d'
+pub one_derivation : (g : Tables) (root : ℕ) → MayBegin g root → (ps qs : List Step) (us : List ℕ) → Spells g root ps us → Spells g root qs us → ps ≡ qs
+one_derivation g root p ps qs us d d' = one_from g (certificate_of g) (shown_of g p.0) (sound_start g (certificate_of g) (shown_of g p.0) root p.1) d d'
 
 among_take : (k n : ℕ) (xs : List ℕ) → is_among k (take n xs) ≡ true → is_among k xs ≡ true
 among_take k zero xs h = absurd cc

@@ -7,8 +7,9 @@ use Rattle.gv_grammar.specs.declared.steps.Step.{Step}
 use Rattle.gv_grammar.specs.declared.steps.Step.TheVariants.{Take, Do}
 use Rattle.gv_grammar.specs.declared.grammars.Grammar.{Grammar}
 
--- a grammar as lists
+-- a grammar as lists; the roots are the names that a whole list may be derived from
 pub record Tables : Type 0 where
+  pub roots : List ℕ
   pub names : List ℕ
   pub symbols : List Symbol
   pub starts : List ℕ
@@ -19,6 +20,7 @@ pub record Tables : Type 0 where
 
 abbrev pub tables_of : Grammar → Tables
 tables_of g = record {
+  roots = g.roots.now;
   names = g.names.now;
   symbols = g.symbols.now;
   starts = g.starts.now;
@@ -58,14 +60,14 @@ pub data Derives (g : Tables) : List Symbol → List Step → List ℕ → Type 
   named : {name : ℕ} (rule : ℕ) {more : List Symbol} {steps : List Step} {classes : List ℕ} → slice_get g.names rule ≡ Some name
       → Derives g (symbols_of g rule ++ more) steps classes → Derives g (Name name ∷ more) steps classes
 
--- what the first name derives
-abbrev pub Spells : Tables → List Step → List ℕ → Type 0
-Spells g steps classes = Derives g (Name 0 ∷ []) steps classes
+-- what a name by itself derives
+abbrev pub Spells : Tables → ℕ → List Step → List ℕ → Type 0
+Spells g root steps classes = Derives g (Name root ∷ []) steps classes
 
--- some list that begins so is derived
-abbrev pub IsViable : Tables → List ℕ → Type 0
-IsViable g front = (steps : List Step) × (more : List ℕ) × Spells g steps (front ++ more)
+-- some list that begins so is derived from the name
+abbrev pub IsViable : Tables → ℕ → List ℕ → Type 0
+IsViable g root front = (steps : List Step) × (more : List ℕ) × Spells g root steps (front ++ more)
 
 -- no list that begins so is derived
-abbrev pub IsStuck : Tables → List ℕ → Type 0
-IsStuck g front = (steps : List Step) (more : List ℕ) → Spells g steps (front ++ more) → ⊥
+abbrev pub IsStuck : Tables → ℕ → List ℕ → Type 0
+IsStuck g root front = (steps : List Step) (more : List ℕ) → Spells g root steps (front ++ more) → ⊥

@@ -56,7 +56,7 @@ Advances g class old new steps steps' Refused = (added : List Step) × (steps' �
 Advances g class old new steps steps' Finished = (added : List Step) × (steps' ≡ steps ++ added) × Narrows g class old [] added
 
 -- The stack derives what may follow the classes seen, and no more.
-pub record IsReading (g : Tables) (seen : List ℕ) (stack : List Symbol) (steps : List Step) : Type 0 where
-  pub up : (ps : List Step) (us : List ℕ) → Derives g stack ps us → Spells g (steps ++ ps) (seen ++ us)
-  pub down : (ps : List Step) (us : List ℕ) → Spells g ps (seen ++ us) → (rest : List Step) × (ps ≡ steps ++ rest) × Derives g stack rest us
+pub record IsReading (g : Tables) (root : ℕ) (seen : List ℕ) (stack : List Symbol) (steps : List Step) : Type 0 where
+  pub up : (ps : List Step) (us : List ℕ) → Derives g stack ps us → Spells g root (steps ++ ps) (seen ++ us)
+  pub down : (ps : List Step) (us : List ℕ) → Spells g root ps (seen ++ us) → (rest : List Step) × (ps ≡ steps ++ rest) × Derives g stack rest us
   pub sound : IsSound g (certificate_of g) stack

@@ -10,33 +10,33 @@ use Rattle.gv_grammar.specs.Levels.{takes_in, IsTooDeep, IsShallow}
 use Rattle.gv_grammar.specs.Outcomes.{IsRefusedAt, EndsEarly}
 
 -- what a fault of a derivation says
-abbrev pub Explains : Tables → List ℕ → Fault → Type 0
-Explains g classes NoMemory = Unit {0}
-Explains g classes (Refused at) = IsRefusedAt g classes at
-Explains g classes End = EndsEarly g classes
+abbrev pub Explains : Tables → ℕ → List ℕ → Fault → Type 0
+Explains g root classes NoMemory = Unit {0}
+Explains g root classes (Refused at) = IsRefusedAt g root classes at
+Explains g root classes End = EndsEarly g root classes
 
 -- every derivation of a list that begins with these classes begins with the steps, which take no more than these
-pub record Begin (g : Tables) (seen : List ℕ) (steps : List Step) : Type 0 where
-  pub front : (others : List Step) (more : List ℕ) → Spells g others (seen ++ more) → (rest : List Step) × (others ≡ steps ++ rest)
+pub record Begin (g : Tables) (root : ℕ) (seen : List ℕ) (steps : List Step) : Type 0 where
+  pub front : (others : List Step) (more : List ℕ) → Spells g root others (seen ++ more) → (rest : List Step) × (others ≡ steps ++ rest)
   pub count : takes_in steps ≡ length seen
 
 -- the steps are those of the classes before the fault
-abbrev pub IsFrontOf : Tables → List ℕ → List Step → Fault → Type 0
-IsFrontOf g classes steps NoMemory = Unit {0}
-IsFrontOf g classes steps (Refused at) = Begin g (take at classes) steps
-IsFrontOf g classes steps End = Begin g classes steps
+abbrev pub IsFrontOf : Tables → ℕ → List ℕ → List Step → Fault → Type 0
+IsFrontOf g root classes steps NoMemory = Unit {0}
+IsFrontOf g root classes steps (Refused at) = Begin g root (take at classes) steps
+IsFrontOf g root classes steps End = Begin g root classes steps
 
-module _ (g : Tables) (level limit : ℕ) where
+module _ (g : Tables) (root level limit : ℕ) where
   -- what a fault of a derivation within the limit says
   abbrev pub ReadExplains : List ℕ → ReadFault → Type 0
   ReadExplains classes ReadNoMemory = Unit {0}
-  ReadExplains classes (ReadRefused at) = IsRefusedAt g classes at × IsShallow g level limit classes
-  ReadExplains classes (TooDeep at) = IsTooDeep g level limit classes at
-  ReadExplains classes ReadEnd = EndsEarly g classes × IsShallow g level limit classes
+  ReadExplains classes (ReadRefused at) = IsRefusedAt g root classes at × IsShallow g root level limit classes
+  ReadExplains classes (TooDeep at) = IsTooDeep g root level limit classes at
+  ReadExplains classes ReadEnd = EndsEarly g root classes × IsShallow g root level limit classes
 
   -- what a fault of the longest run says
   abbrev pub RunExplains : List ℕ → ReadFault → Type 0
   RunExplains classes ReadNoMemory = Unit {0}
-  RunExplains classes (ReadRefused at) = IsRefusedAt g classes at × EndsEarly g (take at classes) × IsShallow g level limit classes
-  RunExplains classes (TooDeep at) = IsTooDeep g level limit classes at
-  RunExplains classes ReadEnd = EndsEarly g classes × IsShallow g level limit classes
+  RunExplains classes (ReadRefused at) = IsRefusedAt g root classes at × EndsEarly g root (take at classes) × IsShallow g root level limit classes
+  RunExplains classes (TooDeep at) = IsTooDeep g root level limit classes at
+  RunExplains classes ReadEnd = EndsEarly g root classes × IsShallow g root level limit classes

@@ -40,10 +40,10 @@ abbrev pub IsDeepBefore : ℕ → Option ℕ → Option ℕ → Type 0
 IsDeepBefore end deep (Some at) = (deep ≡ Some at) × (at < end)
 IsDeepBefore end deep None = NotBefore end deep
 
-module _ (g : Tables) (level limit : ℕ) where
+module _ (g : Tables) (root level limit : ℕ) where
   -- in each derived list that begins so, this holds of the first token that opens a level above the limit
   abbrev pub EachDerived : List ℕ → (Option ℕ → Type 0) → Type 0
-  EachDerived front P = (steps : List Step) (more : List ℕ) → Spells g steps (front ++ more) → P (deep_from limit level [] 0 steps)
+  EachDerived front P = (steps : List Step) (more : List ℕ) → Spells g root steps (front ++ more) → P (deep_from limit level [] 0 steps)
 
   -- The tokens up to this one, with the next where it takes that to tell, begin a derived list, and in each one that
   -- begins so this is the first token that opens a level above the limit.
@@ -52,7 +52,7 @@ module _ (g : Tables) (level limit : ℕ) where
     pub past : at < end
     pub near : end ≤ at + 2
     pub within : end ≤ length classes
-    pub viable : IsViable g (take end classes)
+    pub viable : IsViable g root (take end classes)
     pub each : EachDerived (take end classes) (λ deep. deep ≡ Some at)
 
   -- no token is too deep

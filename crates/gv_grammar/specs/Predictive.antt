@@ -1,5 +1,5 @@
 -- The test of a table, and what it rests on.
-use Rattle.std.specs.Prelude.{ℕ, suc, zero, ◌+◌, ◌-◌, ◌*◌, Bool, true, false, not, ◌&&◌, ◌||◌, ◌==◌, nat_lt, List, [], ◌∷◌, ◌++◌, length, Some, None, slice_get, slice_index, slice_set, drop, max, fold, reverse, replicate, if◌then◌else◌}
+use Rattle.std.specs.Prelude.{◌≡◌, ℕ, suc, zero, ◌+◌, ◌*◌, Bool, true, false, not, ◌&&◌, ◌||◌, ◌==◌, nat_lt, List, [], ◌∷◌, ◌++◌, length, Some, None, slice_get, slice_index, slice_set, drop, max, fold, reverse, replicate, if◌then◌else◌}
 use Rattle.std.specs.List.{list_all, enumerate_from}
 use Rattle.gv_grammar.specs.declared.symbols.Symbol.{Symbol}
 use Rattle.gv_grammar.specs.declared.symbols.Symbol.TheVariants.{Token, Name, Act}
@@ -117,12 +117,15 @@ module _ (g : Tables) (c : Certificate) where
   abbrev pub closes : ℕ × ℕ → Bool
   closes (name, rule) = is_rule_of g name rule && list_all (is_below (slice_index c.depth name)) (symbols_of g rule)
 
+  -- a root is a name, behind which the end may stand
+  abbrev pub root_holds : ℕ → Bool
+  root_holds root = nat_lt root (length c.closing) && is_among 0 (row c.follow root)
+
   abbrev pub is_shown_by : Bool
   is_shown_by =
-      nat_lt 0 (length c.closing)
-      && (is_among 0 (row c.follow 0)
+      list_all root_holds g.roots
       && (list_all rule_holds (enumerate_from 0 g.names)
-      && list_all closes (enumerate_from 0 c.closing)))
+      && list_all closes (enumerate_from 0 c.closing))
 
 abbrev pub union : List ℕ → List ℕ → List ℕ
 union [] ns = ns
@@ -142,7 +145,8 @@ depth_of c [] = 1
 depth_of c (Token set ∷ more) = depth_of c more
 depth_of c (Act number ∷ more) = elim (number == OPEN_BEFORE) [ true ↦ 0 | false ↦ depth_of c more ]
 depth_of c (Name name ∷ more) =
-    elim (slice_index c.depth name == 0) [ true ↦ 0 | false ↦ elim (depth_of c more == 0) [ true ↦ 0 | false ↦ max (slice_index c.depth name + 1) (depth_of c more) ] ]
+    elim (slice_index c.depth name == 0)
+    [ true ↦ 0 | false ↦ elim (depth_of c more == 0) [ true ↦ 0 | false ↦ max (slice_index c.depth name + 1) (depth_of c more) ] ]
 
 abbrev pub with_rule : Tables → ℕ × ℕ → Certificate → Certificate
 with_rule g (rule, name) c =
@@ -165,6 +169,11 @@ abbrev pub after_rounds : ℕ → Tables → List (ℕ × ℕ) → List (ℕ × 
 after_rounds zero g rules backwards c = c
 after_rounds (suc n) g rules backwards c = after_rounds n g rules backwards (with_rules g rules (with_rules g backwards c))
 
+-- the end alone stands behind each root at first, and nothing behind other names
+abbrev pub with_ends : List ℕ → List (List ℕ) → List (List ℕ)
+with_ends [] follow = follow
+with_ends (root ∷ roots) follow = with_ends roots (slice_set follow root (0 ∷ []))
+
 -- the certificate that some rounds over the rules make
 unfoldable pub certificate_of : Tables → Certificate
 certificate_of g =
@@ -173,7 +182,7 @@ certificate_of g =
     after_rounds 4 g rules (reverse rules) (record {
       empty = replicate count false;
       first = replicate count [];
-      follow = (0 ∷ []) ∷ replicate (count - 1) [];
+      follow = with_ends g.roots (replicate count []);
       weight = replicate count 0;
       depth = replicate count 0;
       closing = replicate count 0;
@@ -182,3 +191,7 @@ certificate_of g =
 -- the table has the one rule that may go on, each name derives something, and marks for the token taken last are shown
 unfoldable pub is_predictive : Tables → Bool
 is_predictive g = is_shown_by g (certificate_of g)
+
+-- lists may be read from this name on
+abbrev pub MayBegin : Tables → ℕ → Type 0
+MayBegin g root = (is_predictive g ≡ true) × (is_among root g.roots ≡ true)

@@ -1,7 +1,7 @@
 //! Derives lists of classes.
 ghost use Rattle.std.specs.Prelude.{◌≡◌, ◌++◌, [], true, reverse, take, OnOk, IfOk, IfErr, IfSome, IfNone};
 ghost use Rattle.gv_grammar.specs.Derivation.{tables_of};
-ghost use Rattle.gv_grammar.specs.Predictive.{is_predictive, certificate_of};
+ghost use Rattle.gv_grammar.specs.Predictive.{is_predictive, certificate_of, MayBegin};
 ghost use Rattle.gv_grammar.specs.Engine.{IsSound, Advances};
 ghost use Rattle.gv_grammar.specs.Outcomes.{IsDerivation, EndsEarly, IsLongest};
 ghost use Rattle.gv_grammar.specs.Faults.{Explains, IsFrontOf};
@@ -39,7 +39,8 @@ fn take_class(
 ) -> Result<Advance, AllocError>
     requires predictive { is_predictive (tables_of grammar.now) ≡ true }
     requires sound { IsSound (tables_of grammar.now) (certificate_of (tables_of grammar.now)) (reverse stack.old.items) }
-    ensures { IfOk result (λ advance. Advances (tables_of grammar.now) class (reverse stack.old.items) (reverse stack.new.items) steps.old.items steps.new.items advance) }
+    ensures { IfOk result (λ advance. Advances (tables_of grammar.now) class (reverse stack.old.items)
+        (reverse stack.new.items) steps.old.items steps.new.items advance) }
 {
     while let Some(symbol) = stack.pop() {
         match symbol {
@@ -68,17 +69,18 @@ fn take_class(
 pub(crate) fn derive_into(
     alloc: Global,
     grammar: &Grammar,
+    root: u8,
     classes: &[u8],
     steps: &mut Vec<Step>,
 ) -> Result<(), Fault>
-    requires predictive { is_predictive (tables_of grammar.now) ≡ true }
+    requires begins { MayBegin (tables_of grammar.now) root }
     requires none { steps.old.items ≡ [] }
-    ensures derived { OnOk result (IsDerivation (tables_of grammar.now) steps.new.items classes.now) }
-    ensures fault { IfErr result (Explains (tables_of grammar.now) classes.now) }
-    ensures front { IfErr result (IsFrontOf (tables_of grammar.now) classes.now steps.new.items) }
+    ensures derived { OnOk result (IsDerivation (tables_of grammar.now) root steps.new.items classes.now) }
+    ensures fault { IfErr result (Explains (tables_of grammar.now) root classes.now) }
+    ensures front { IfErr result (IsFrontOf (tables_of grammar.now) root classes.now steps.new.items) }
 {
     let mut stack = Vec::new(alloc);
-    stack.push(Symbol::Name(0))?;
+    stack.push(Symbol::Name(root))?;
     for (at, class) in classes.iter().enumerate() {
         let kept = steps.len();
         match take_class(grammar, *class, &mut stack, steps)? {
@@ -99,21 +101,26 @@ pub(crate) fn derive_into(
     }
 }
 
-/// The one derivation of the classes, in time and room linear in their number.
+/// The one derivation of the classes from a root, in time and room linear in their number.
 ///
-/// Errors: `Refused` at the first class such that no derived list begins with the classes up to it; `End` where the
-/// classes begin a derived list and are none. Source: this project's own, a predictive parser with a checked table.
-pub fn derive(alloc: Global, grammar: &Grammar, classes: &[u8]) -> Result<Vec<Step>, Fault>
-    requires { is_predictive (tables_of grammar.now) ≡ true }
-    ensures derived { IfOk result (λ steps. IsDerivation (tables_of grammar.now) steps.items classes.now) }
-    ensures fault { IfErr result (Explains (tables_of grammar.now) classes.now) }
+/// Errors: `Refused` at the first class such that no list derived from the root begins with the classes up to it; `End`
+/// where the classes begin a derived list and are none. Source: this project's own, a predictive parser with a checked table.
+pub fn derive(
+    alloc: Global,
+    grammar: &Grammar,
+    root: u8,
+    classes: &[u8],
+) -> Result<Vec<Step>, Fault>
+    requires { MayBegin (tables_of grammar.now) root }
+    ensures derived { IfOk result (λ steps. IsDerivation (tables_of grammar.now) root steps.items classes.now) }
+    ensures fault { IfErr result (Explains (tables_of grammar.now) root classes.now) }
 {
     let mut steps = Vec::new(alloc);
-    derive_into(alloc, grammar, classes, &mut steps)?;
+    derive_into(alloc, grammar, root, classes, &mut steps)?;
     Ok(steps)
 }
 
-/// A longest front of a list that begins a derived list.
+/// A longest front of a list that begins a list derived from a root.
 #[derive(Debug, Drop)]
 pub struct Run {
     /// How many classes it has.
@@ -122,15 +129,20 @@ pub struct Run {
     pub steps: Option<Vec<Step>>,
 }
 
-/// The longest front of the classes that a derived list begins with, and its derivation where it is itself derived;
+/// The longest front of the classes that a list derived from the root begins with, and its derivation where it is itself derived;
 /// in time and room linear in this front.
-pub fn longest(alloc: Global, grammar: &Grammar, classes: &[u8]) -> Result<Run, AllocError>
-    requires { is_predictive (tables_of grammar.now) ≡ true }
-    ensures front { IfOk result (λ run. IsLongest (tables_of grammar.now) classes.now run.len) }
-    ensures whole { IfOk result (λ run. IfSome run.steps (λ steps. IsDerivation (tables_of grammar.now) steps.items (take run.len classes.now))) }
-    ensures part { IfOk result (λ run. IfNone run.steps (EndsEarly (tables_of grammar.now) (take run.len classes.now))) }
+pub fn longest(
+    alloc: Global,
+    grammar: &Grammar,
+    root: u8,
+    classes: &[u8],
+) -> Result<Run, AllocError>
+    requires { MayBegin (tables_of grammar.now) root }
+    ensures front { IfOk result (λ run. IsLongest (tables_of grammar.now) root classes.now run.len) }
+    ensures whole { IfOk result (λ run. IfSome run.steps (λ steps. IsDerivation (tables_of grammar.now) root steps.items (take run.len classes.now))) }
+    ensures part { IfOk result (λ run. IfNone run.steps (EndsEarly (tables_of grammar.now) root (take run.len classes.now))) }
 {
-    let len = match derive(alloc, grammar, classes) {
+    let len = match derive(alloc, grammar, root, classes) {
         Ok(steps) => {
             return Ok(Run {
                 len: classes.len(),
@@ -146,7 +158,7 @@ pub fn longest(alloc: Global, grammar: &Grammar, classes: &[u8]) -> Result<Run, 
         }
         Err(Fault::Refused { at }) => at,
     };
-    match derive(alloc, grammar, &classes[..len]) {
+    match derive(alloc, grammar, root, &classes[..len]) {
         Ok(steps) => Ok(Run {
             len,
             steps: Some(steps),

@@ -7,10 +7,12 @@ use crate::symbols::Symbol;
 
 /// A grammar as tables. Rows lie one after another, and an array of starts has where each begins, and at last the end.
 ///
-/// Its readers ask for `is_predictive` of the tables, which a caller has by computation. Source: this project's own.
+/// Its readers ask for `MayBegin` of the tables and a root, which a caller has by computation. Source: this project's own.
 #[derive(Clone, Copy, Debug)]
 pub struct Grammar {
-    /// By rule, the name that it is of. Name 0 is what a whole list is derived from.
+    /// The names that a whole list may be derived from.
+    pub roots: &'static [u8],
+    /// By rule, the name that it is of.
     pub names: &'static [u8],
     /// The rules' rows.
     pub symbols: &'static [Symbol],

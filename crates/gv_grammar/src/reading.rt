@@ -1,7 +1,7 @@
 //! Derives lists of classes within a limit of nesting.
-ghost use Rattle.std.specs.Prelude.{◌≡◌, [], true, length, take, IfOk, IfErr};
+ghost use Rattle.std.specs.Prelude.{[], length, take, IfOk, IfErr};
 ghost use Rattle.gv_grammar.specs.Derivation.{tables_of};
-ghost use Rattle.gv_grammar.specs.Predictive.{is_predictive};
+ghost use Rattle.gv_grammar.specs.Predictive.{MayBegin};
 ghost use Rattle.gv_grammar.specs.Outcomes.{IsDerivation, IsLongest};
 ghost use Rattle.gv_grammar.specs.Levels.{deep_from, NotBefore};
 ghost use Rattle.gv_grammar.specs.Faults.{ReadExplains, RunExplains};
@@ -14,24 +14,25 @@ use crate::read_faults::ReadFault;
 use crate::steps::Step;
 use std::alloc::Global;
 
-/// The one derivation of the classes, if none of them opens a level above `limit`, where `level` levels are open
+/// The one derivation of the classes from a root, if none of them opens a level above `limit`, where `level` levels are open
 /// before them.
 ///
 /// Errors: what comes first of a class too deep and a class refused, or `End`. Source: this project's own.
 pub fn derive_within(
     alloc: Global,
     grammar: &Grammar,
+    root: u8,
     classes: &[u8],
     level: u32,
     limit: u32,
 ) -> Result<Vec<Step>, ReadFault>
-    requires { is_predictive (tables_of grammar.now) ≡ true }
-    ensures derived { IfOk result (λ steps. IsDerivation (tables_of grammar.now) steps.items classes.now) }
+    requires { MayBegin (tables_of grammar.now) root }
+    ensures derived { IfOk result (λ steps. IsDerivation (tables_of grammar.now) root steps.items classes.now) }
     ensures within { IfOk result (λ steps. NotBefore (length classes.now) (deep_from limit level [] 0 steps.items)) }
-    ensures fault { IfErr result (ReadExplains (tables_of grammar.now) level limit classes.now) }
+    ensures fault { IfErr result (ReadExplains (tables_of grammar.now) root level limit classes.now) }
 {
     let mut steps = Vec::new(alloc);
-    match derive_into(alloc, grammar, classes, &mut steps) {
+    match derive_into(alloc, grammar, root, classes, &mut steps) {
         Ok(()) => match deep_before(alloc, &steps, level, limit, classes.len())? {
             Some(at) => Err(ReadFault::TooDeep { at }),
             None => Ok(steps),
@@ -56,24 +57,25 @@ pub struct DerivedRun {
     pub steps: Vec<Step>,
 }
 
-/// The longest front of the classes that a derived list begins with, if it is itself derived within the limit.
+/// The longest front of the classes that a list derived from the root begins with, if it is itself derived within the limit.
 ///
 /// Errors: `TooDeep` at a class of this front; `Refused` at the class behind it and `End` where there is none, if the
 /// front is not derived. Source: this project's own.
 pub fn longest_within(
     alloc: Global,
     grammar: &Grammar,
+    root: u8,
     classes: &[u8],
     level: u32,
     limit: u32,
 ) -> Result<DerivedRun, ReadFault>
-    requires { is_predictive (tables_of grammar.now) ≡ true }
-    ensures longest { IfOk result (λ run. IsLongest (tables_of grammar.now) classes.now run.len) }
-    ensures derived { IfOk result (λ run. IsDerivation (tables_of grammar.now) run.steps.items (take run.len classes.now)) }
+    requires { MayBegin (tables_of grammar.now) root }
+    ensures longest { IfOk result (λ run. IsLongest (tables_of grammar.now) root classes.now run.len) }
+    ensures derived { IfOk result (λ run. IsDerivation (tables_of grammar.now) root run.steps.items (take run.len classes.now)) }
     ensures within { IfOk result (λ run. NotBefore run.len (deep_from limit level [] 0 run.steps.items)) }
-    ensures fault { IfErr result (RunExplains (tables_of grammar.now) level limit classes.now) }
+    ensures fault { IfErr result (RunExplains (tables_of grammar.now) root level limit classes.now) }
 {
-    let len = match derive_within(alloc, grammar, classes, level, limit) {
+    let len = match derive_within(alloc, grammar, root, classes, level, limit) {
         Ok(steps) => {
             return Ok(DerivedRun {
                 len: classes.len(),
@@ -83,7 +85,7 @@ pub fn longest_within(
         Err(ReadFault::Refused { at }) => at,
         Err(fault) => return Err(fault),
     };
-    match derive_within(alloc, grammar, &classes[..len], level, limit) {
+    match derive_within(alloc, grammar, root, &classes[..len], level, limit) {
         Ok(steps) => Ok(DerivedRun { len, steps }),
         Err(ReadFault::NoMemory) => Err(ReadFault::NoMemory),
         Err(ReadFault::End) => Err(ReadFault::Refused { at: len }),

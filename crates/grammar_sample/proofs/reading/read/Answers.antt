@@ -4,8 +4,8 @@ use Rattle.grammar_sample.specs.declared.reading.TheConstants.{MAX_LEVELS}
 use Rattle.grammar_sample.proofs.Top.{laws}
 use Rattle.grammar_sample.proofs.reading.read.Goals as goal
 
-pub build-requires : goal.build-requires
-build-requires c =
+pub build_stmts-requires : goal.build_stmts-requires
+build_stmts-requires c =
     let (tree, r) = read_builds laws 0 MAX_LEVELS c.sample_grammar.ensures.tables c.args.tokens.now (c.deref.ensures.value ∙ c.in_ok-classes.ensures) c.deref-in-Ok.ensures.value c.in-Ok.ensures.derived in
     rw r refl
 
@@ -14,13 +14,13 @@ returns-clause-fault c = read_fault laws 0 MAX_LEVELS c.sample_grammar.ensures.t
 
 pub returns-in-Ok-clause-found : goal.returns-in-Ok-clause-found
 returns-in-Ok-clause-found c =
-    read_found laws 0 MAX_LEVELS c.sample_grammar.ensures.tables c.args.tokens.now (c.deref.ensures.value ∙ c.in_ok-classes.ensures) c.deref-in-Ok.ensures.value c.in-Ok.ensures.derived c.in_ok-build-in-Ok.ensures
+    read_found laws 0 MAX_LEVELS c.sample_grammar.ensures.tables c.args.tokens.now (c.deref.ensures.value ∙ c.in_ok-classes.ensures) c.deref-in-Ok.ensures.value c.in-Ok.ensures.derived c.in_ok-build_stmts-in-Ok.ensures
 
 pub returns-in-Ok-clause-within : goal.returns-in-Ok-clause-within
 returns-in-Ok-clause-within c =
-    read_within laws 0 MAX_LEVELS c.sample_grammar.ensures.tables c.args.tokens.now (c.deref.ensures.value ∙ c.in_ok-classes.ensures) c.deref-in-Ok.ensures.value c.in-Ok.ensures.derived c.in_ok-build-in-Ok.ensures
+    read_within laws 0 MAX_LEVELS c.sample_grammar.ensures.tables c.args.tokens.now (c.deref.ensures.value ∙ c.in_ok-classes.ensures) c.deref-in-Ok.ensures.value c.in-Ok.ensures.derived c.in_ok-build_stmts-in-Ok.ensures
     c.in-Ok.ensures.within
 
 pub returns-in-Ok-clause-only : goal.returns-in-Ok-clause-only
 returns-in-Ok-clause-only c =
-    read_only laws 0 MAX_LEVELS c.sample_grammar.ensures.tables c.args.tokens.now (c.deref.ensures.value ∙ c.in_ok-classes.ensures) c.deref-in-Ok.ensures.value c.in-Ok.ensures.derived c.in_ok-build-in-Ok.ensures
+    read_only laws 0 MAX_LEVELS c.sample_grammar.ensures.tables c.args.tokens.now (c.deref.ensures.value ∙ c.in_ok-classes.ensures) c.deref-in-Ok.ensures.value c.in-Ok.ensures.derived c.in_ok-build_stmts-in-Ok.ensures

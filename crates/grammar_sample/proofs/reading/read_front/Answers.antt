@@ -4,8 +4,8 @@ use Rattle.grammar_sample.specs.declared.reading.TheConstants.{MAX_LEVELS}
 use Rattle.grammar_sample.proofs.Top.{laws}
 use Rattle.grammar_sample.proofs.reading.read_front.Goals as goal
 
-pub build-requires : goal.build-requires
-build-requires c =
+pub build_stmts-requires : goal.build_stmts-requires
+build_stmts-requires c =
     let classes = classes_of_front (λ token. token.class) c.in-Ok.run'.len c.args.tokens.now (c.deref.ensures.value ∙ c.in_ok-classes.ensures) in
     let (tree, r) = read_builds laws c.args.level MAX_LEVELS c.sample_grammar.ensures.tables _ classes c.deref-in-Ok.ensures.value c.in-Ok.ensures.derived in
     rw r refl

@@ -6,4 +6,4 @@ pub unreachable-requires : goal.unreachable-requires
 unreachable-requires c =
     let first = rw c.in-Err-Refused.field-0-is at c.in-Err-Refused.ensures.fault in
     let second = rw c.in-Err-Refused-derive.field-0-is at c.in-Err-Refused-derive.ensures.fault in
-    viable_passes (tables_of c.args.grammar.now) _ _ first.viable second
+    viable_passes (tables_of c.args.grammar.now) c.args.root _ _ first.viable second

@@ -1,10 +1,10 @@
 //! The parts of the sample language, and what acts make of them. Made by tools/grammar.py from sample.grammar: edit that.
-ghost use Rattle.std.specs.Prelude.{◌≡◌, ◌≤◌, ◌∷◌, [], true, reverse, Some, IsSome, OnOk, IfOk};
-ghost use Rattle.gv_grammar.specs.Building.{has_tops, accepts, made_by, act_of, run, is_whole};
-ghost use Rattle.grammar_sample.specs.SampleActs.{kind_of, acts, made_begin, made_block, made_add, made_separated, made_nested, made_if, made_if_else, made_head, made_number, made_none, made_apply, made_paren, made_member, made_more, made_call, made_called, made_assign, made_not, made_value, made_call_value, made_operand, made_binary, made_name, made_select, made_first, made_next};
-ghost use Rattle.grammar_sample.specs.declared.sample_acts.Part.TheVariants.{Token as PToken, Expr as PExpr, Args as PArgs, Head as PHead, Call as PCall, Right as PRight, Stmt as PStmt, Stmts as PStmts};
+ghost use Rattle.std.specs.Prelude.{◌≡◌, ◌≤◌, ◌<◌, ◌∷◌, [], true, reverse, Some, IsSome, OnOk, IfOk};
+ghost use Rattle.gv_grammar.specs.Building.{has_tops, accepts, made_by, is_whole};
+ghost use Rattle.grammar_sample.specs.SampleActs.{is_token, is_expr, is_args, is_head, is_call, is_right, is_stmt, is_stmts, made_begin, made_block, made_add, made_separated, made_nested, made_if, made_if_else, made_head, made_number, made_none, made_apply, made_paren, made_member, made_more, made_call, made_called, made_assign, made_not, made_value, made_call_value, made_operand, made_binary, made_name, made_select, made_first, made_next, sample_acts, sample_built};
+ghost use Rattle.grammar_sample.specs.declared.generated.sample_acts.Part.TheVariants.{Token as PToken, Expr as PExpr, Args as PArgs, Head as PHead, Call as PCall, Right as PRight, Stmt as PStmt, Stmts as PStmts};
 
-use crate::sample_table::{
+use crate::generated::sample_table::{
     ACT_ADD, ACT_APPLY, ACT_ASSIGN, ACT_BEGIN, ACT_BINARY, ACT_BLOCK, ACT_CALL, ACT_CALL_VALUE,
     ACT_CALLED, ACT_FIRST, ACT_HEAD, ACT_IF, ACT_IF_ELSE, ACT_MEMBER, ACT_MORE, ACT_NAME,
     ACT_NESTED, ACT_NEXT, ACT_NONE, ACT_NOT, ACT_NUMBER, ACT_OPERAND, ACT_PAREN, ACT_SELECT,
@@ -28,24 +28,8 @@ pub enum Part {
     Stmts(Items<Stmt>),
 }
 
-pub const KIND_TOKEN: u8 = 0;
-
-pub const KIND_EXPR: u8 = 1;
-
-pub const KIND_ARGS: u8 = 2;
-
-pub const KIND_HEAD: u8 = 3;
-
-pub const KIND_CALL: u8 = 4;
-
-pub const KIND_RIGHT: u8 = 5;
-
-pub const KIND_STMT: u8 = 6;
-
-pub const KIND_STMTS: u8 = 7;
-
 fn pop_token(parts: &mut Vec<Part>) -> Token
-    requires { has_tops kind_of (KIND_TOKEN ∷ []) (reverse parts.old.items) ≡ true }
+    requires { has_tops (is_token ∷ []) (reverse parts.old.items) ≡ true }
     ensures { reverse parts.old.items ≡ PToken result ∷ reverse parts.new.items }
 {
     match parts.pop() {
@@ -55,7 +39,7 @@ fn pop_token(parts: &mut Vec<Part>) -> Token
 }
 
 fn pop_expr(parts: &mut Vec<Part>) -> Expr
-    requires { has_tops kind_of (KIND_EXPR ∷ []) (reverse parts.old.items) ≡ true }
+    requires { has_tops (is_expr ∷ []) (reverse parts.old.items) ≡ true }
     ensures { reverse parts.old.items ≡ PExpr result ∷ reverse parts.new.items }
 {
     match parts.pop() {
@@ -65,7 +49,7 @@ fn pop_expr(parts: &mut Vec<Part>) -> Expr
 }
 
 fn pop_args(parts: &mut Vec<Part>) -> Items<Expr>
-    requires { has_tops kind_of (KIND_ARGS ∷ []) (reverse parts.old.items) ≡ true }
+    requires { has_tops (is_args ∷ []) (reverse parts.old.items) ≡ true }
     ensures { reverse parts.old.items ≡ PArgs result ∷ reverse parts.new.items }
 {
     match parts.pop() {
@@ -75,7 +59,7 @@ fn pop_args(parts: &mut Vec<Part>) -> Items<Expr>
 }
 
 fn pop_head(parts: &mut Vec<Part>) -> Head
-    requires { has_tops kind_of (KIND_HEAD ∷ []) (reverse parts.old.items) ≡ true }
+    requires { has_tops (is_head ∷ []) (reverse parts.old.items) ≡ true }
     ensures { reverse parts.old.items ≡ PHead result ∷ reverse parts.new.items }
 {
     match parts.pop() {
@@ -85,7 +69,7 @@ fn pop_head(parts: &mut Vec<Part>) -> Head
 }
 
 fn pop_call(parts: &mut Vec<Part>) -> Call
-    requires { has_tops kind_of (KIND_CALL ∷ []) (reverse parts.old.items) ≡ true }
+    requires { has_tops (is_call ∷ []) (reverse parts.old.items) ≡ true }
     ensures { reverse parts.old.items ≡ PCall result ∷ reverse parts.new.items }
 {
     match parts.pop() {
@@ -95,7 +79,7 @@ fn pop_call(parts: &mut Vec<Part>) -> Call
 }
 
 fn pop_right(parts: &mut Vec<Part>) -> Right
-    requires { has_tops kind_of (KIND_RIGHT ∷ []) (reverse parts.old.items) ≡ true }
+    requires { has_tops (is_right ∷ []) (reverse parts.old.items) ≡ true }
     ensures { reverse parts.old.items ≡ PRight result ∷ reverse parts.new.items }
 {
     match parts.pop() {
@@ -105,7 +89,7 @@ fn pop_right(parts: &mut Vec<Part>) -> Right
 }
 
 fn pop_stmt(parts: &mut Vec<Part>) -> Stmt
-    requires { has_tops kind_of (KIND_STMT ∷ []) (reverse parts.old.items) ≡ true }
+    requires { has_tops (is_stmt ∷ []) (reverse parts.old.items) ≡ true }
     ensures { reverse parts.old.items ≡ PStmt result ∷ reverse parts.new.items }
 {
     match parts.pop() {
@@ -115,7 +99,7 @@ fn pop_stmt(parts: &mut Vec<Part>) -> Stmt
 }
 
 fn pop_stmts(parts: &mut Vec<Part>) -> Items<Stmt>
-    requires { has_tops kind_of (KIND_STMTS ∷ []) (reverse parts.old.items) ≡ true }
+    requires { has_tops (is_stmts ∷ []) (reverse parts.old.items) ≡ true }
     ensures { reverse parts.old.items ≡ PStmts result ∷ reverse parts.new.items }
 {
     match parts.pop() {
@@ -133,7 +117,7 @@ fn make_begin(alloc: Global, parts: &mut Vec<Part>) -> Result<(), AllocError>
 }
 
 fn make_block(parts: &mut Vec<Part>) -> Result<(), AllocError>
-    requires { has_tops kind_of (KIND_TOKEN ∷ KIND_STMTS ∷ KIND_TOKEN ∷ []) (reverse parts.old.items) ≡ true }
+    requires { has_tops (is_token ∷ is_stmts ∷ is_token ∷ []) (reverse parts.old.items) ≡ true }
     ensures { OnOk result (made_block (reverse parts.old.items) ≡ reverse parts.new.items) }
 {
     let _ = pop_token(parts);
@@ -145,7 +129,7 @@ fn make_block(parts: &mut Vec<Part>) -> Result<(), AllocError>
 }
 
 fn make_add(parts: &mut Vec<Part>) -> Result<(), AllocError>
-    requires { has_tops kind_of (KIND_STMT ∷ KIND_STMTS ∷ []) (reverse parts.old.items) ≡ true }
+    requires { has_tops (is_stmt ∷ is_stmts ∷ []) (reverse parts.old.items) ≡ true }
     ensures { OnOk result (made_add (reverse parts.old.items) ≡ reverse parts.new.items) }
 {
     let stmt = pop_stmt(parts);
@@ -156,7 +140,7 @@ fn make_add(parts: &mut Vec<Part>) -> Result<(), AllocError>
 }
 
 fn make_separated(parts: &mut Vec<Part>) -> Result<(), AllocError>
-    requires { has_tops kind_of (KIND_TOKEN ∷ KIND_STMTS ∷ []) (reverse parts.old.items) ≡ true }
+    requires { has_tops (is_token ∷ is_stmts ∷ []) (reverse parts.old.items) ≡ true }
     ensures { OnOk result (made_separated (reverse parts.old.items) ≡ reverse parts.new.items) }
 {
     let _ = pop_token(parts);
@@ -167,7 +151,7 @@ fn make_separated(parts: &mut Vec<Part>) -> Result<(), AllocError>
 }
 
 fn make_nested(parts: &mut Vec<Part>) -> Result<(), AllocError>
-    requires { has_tops kind_of (KIND_STMTS ∷ []) (reverse parts.old.items) ≡ true }
+    requires { has_tops (is_stmts ∷ []) (reverse parts.old.items) ≡ true }
     ensures { OnOk result (made_nested (reverse parts.old.items) ≡ reverse parts.new.items) }
 {
     let stmts = pop_stmts(parts);
@@ -177,7 +161,7 @@ fn make_nested(parts: &mut Vec<Part>) -> Result<(), AllocError>
 }
 
 fn make_if(parts: &mut Vec<Part>) -> Result<(), AllocError>
-    requires { has_tops kind_of (KIND_STMTS ∷ KIND_EXPR ∷ KIND_TOKEN ∷ []) (reverse parts.old.items) ≡ true }
+    requires { has_tops (is_stmts ∷ is_expr ∷ is_token ∷ []) (reverse parts.old.items) ≡ true }
     ensures { OnOk result (made_if (reverse parts.old.items) ≡ reverse parts.new.items) }
 {
     let stmts = pop_stmts(parts);
@@ -189,7 +173,7 @@ fn make_if(parts: &mut Vec<Part>) -> Result<(), AllocError>
 }
 
 fn make_if_else(alloc: Global, parts: &mut Vec<Part>) -> Result<(), AllocError>
-    requires { has_tops kind_of (KIND_STMT ∷ KIND_TOKEN ∷ KIND_STMTS ∷ KIND_EXPR ∷ KIND_TOKEN ∷ []) (reverse parts.old.items) ≡ true }
+    requires { has_tops (is_stmt ∷ is_token ∷ is_stmts ∷ is_expr ∷ is_token ∷ []) (reverse parts.old.items) ≡ true }
     ensures { OnOk result (made_if_else (reverse parts.old.items) ≡ reverse parts.new.items) }
 {
     let other = pop_stmt(parts);
@@ -203,7 +187,7 @@ fn make_if_else(alloc: Global, parts: &mut Vec<Part>) -> Result<(), AllocError>
 }
 
 fn make_head(parts: &mut Vec<Part>) -> Result<(), AllocError>
-    requires { has_tops kind_of (KIND_TOKEN ∷ []) (reverse parts.old.items) ≡ true }
+    requires { has_tops (is_token ∷ []) (reverse parts.old.items) ≡ true }
     ensures { OnOk result (made_head (reverse parts.old.items) ≡ reverse parts.new.items) }
 {
     let name = pop_token(parts);
@@ -216,7 +200,7 @@ fn make_head(parts: &mut Vec<Part>) -> Result<(), AllocError>
 }
 
 fn make_number(parts: &mut Vec<Part>) -> Result<(), AllocError>
-    requires { has_tops kind_of (KIND_TOKEN ∷ []) (reverse parts.old.items) ≡ true }
+    requires { has_tops (is_token ∷ []) (reverse parts.old.items) ≡ true }
     ensures { OnOk result (made_number (reverse parts.old.items) ≡ reverse parts.new.items) }
 {
     let token = pop_token(parts);
@@ -234,7 +218,7 @@ fn make_none(alloc: Global, parts: &mut Vec<Part>) -> Result<(), AllocError>
 }
 
 fn make_apply(parts: &mut Vec<Part>) -> Result<(), AllocError>
-    requires { has_tops kind_of (KIND_TOKEN ∷ KIND_ARGS ∷ KIND_TOKEN ∷ KIND_TOKEN ∷ []) (reverse parts.old.items) ≡ true }
+    requires { has_tops (is_token ∷ is_args ∷ is_token ∷ is_token ∷ []) (reverse parts.old.items) ≡ true }
     ensures { OnOk result (made_apply (reverse parts.old.items) ≡ reverse parts.new.items) }
 {
     let _ = pop_token(parts);
@@ -247,7 +231,7 @@ fn make_apply(parts: &mut Vec<Part>) -> Result<(), AllocError>
 }
 
 fn make_paren(parts: &mut Vec<Part>) -> Result<(), AllocError>
-    requires { has_tops kind_of (KIND_TOKEN ∷ KIND_EXPR ∷ KIND_TOKEN ∷ []) (reverse parts.old.items) ≡ true }
+    requires { has_tops (is_token ∷ is_expr ∷ is_token ∷ []) (reverse parts.old.items) ≡ true }
     ensures { OnOk result (made_paren (reverse parts.old.items) ≡ reverse parts.new.items) }
 {
     let _ = pop_token(parts);
@@ -259,7 +243,7 @@ fn make_paren(parts: &mut Vec<Part>) -> Result<(), AllocError>
 }
 
 fn make_member(parts: &mut Vec<Part>) -> Result<(), AllocError>
-    requires { has_tops kind_of (KIND_TOKEN ∷ KIND_TOKEN ∷ KIND_EXPR ∷ []) (reverse parts.old.items) ≡ true }
+    requires { has_tops (is_token ∷ is_token ∷ is_expr ∷ []) (reverse parts.old.items) ≡ true }
     ensures { OnOk result (made_member (reverse parts.old.items) ≡ reverse parts.new.items) }
 {
     let name = pop_token(parts);
@@ -274,7 +258,7 @@ fn make_member(parts: &mut Vec<Part>) -> Result<(), AllocError>
 }
 
 fn make_more(alloc: Global, parts: &mut Vec<Part>) -> Result<(), AllocError>
-    requires { has_tops kind_of (KIND_TOKEN ∷ KIND_TOKEN ∷ KIND_HEAD ∷ []) (reverse parts.old.items) ≡ true }
+    requires { has_tops (is_token ∷ is_token ∷ is_head ∷ []) (reverse parts.old.items) ≡ true }
     ensures { OnOk result (made_more (reverse parts.old.items) ≡ reverse parts.new.items) }
 {
     let name = pop_token(parts);
@@ -289,7 +273,7 @@ fn make_more(alloc: Global, parts: &mut Vec<Part>) -> Result<(), AllocError>
 }
 
 fn make_call(parts: &mut Vec<Part>) -> Result<(), AllocError>
-    requires { has_tops kind_of (KIND_TOKEN ∷ KIND_ARGS ∷ KIND_TOKEN ∷ KIND_HEAD ∷ []) (reverse parts.old.items) ≡ true }
+    requires { has_tops (is_token ∷ is_args ∷ is_token ∷ is_head ∷ []) (reverse parts.old.items) ≡ true }
     ensures { OnOk result (made_call (reverse parts.old.items) ≡ reverse parts.new.items) }
 {
     let _ = pop_token(parts);
@@ -302,7 +286,7 @@ fn make_call(parts: &mut Vec<Part>) -> Result<(), AllocError>
 }
 
 fn make_called(parts: &mut Vec<Part>) -> Result<(), AllocError>
-    requires { has_tops kind_of (KIND_CALL ∷ []) (reverse parts.old.items) ≡ true }
+    requires { has_tops (is_call ∷ []) (reverse parts.old.items) ≡ true }
     ensures { OnOk result (made_called (reverse parts.old.items) ≡ reverse parts.new.items) }
 {
     let call = pop_call(parts);
@@ -312,7 +296,7 @@ fn make_called(parts: &mut Vec<Part>) -> Result<(), AllocError>
 }
 
 fn make_assign(parts: &mut Vec<Part>) -> Result<(), AllocError>
-    requires { has_tops kind_of (KIND_RIGHT ∷ KIND_TOKEN ∷ KIND_HEAD ∷ []) (reverse parts.old.items) ≡ true }
+    requires { has_tops (is_right ∷ is_token ∷ is_head ∷ []) (reverse parts.old.items) ≡ true }
     ensures { OnOk result (made_assign (reverse parts.old.items) ≡ reverse parts.new.items) }
 {
     let right = pop_right(parts);
@@ -324,7 +308,7 @@ fn make_assign(parts: &mut Vec<Part>) -> Result<(), AllocError>
 }
 
 fn make_not(alloc: Global, parts: &mut Vec<Part>) -> Result<(), AllocError>
-    requires { has_tops kind_of (KIND_EXPR ∷ KIND_TOKEN ∷ []) (reverse parts.old.items) ≡ true }
+    requires { has_tops (is_expr ∷ is_token ∷ []) (reverse parts.old.items) ≡ true }
     ensures { OnOk result (made_not (reverse parts.old.items) ≡ reverse parts.new.items) }
 {
     let inner = pop_expr(parts);
@@ -335,7 +319,7 @@ fn make_not(alloc: Global, parts: &mut Vec<Part>) -> Result<(), AllocError>
 }
 
 fn make_value(parts: &mut Vec<Part>) -> Result<(), AllocError>
-    requires { has_tops kind_of (KIND_EXPR ∷ []) (reverse parts.old.items) ≡ true }
+    requires { has_tops (is_expr ∷ []) (reverse parts.old.items) ≡ true }
     ensures { OnOk result (made_value (reverse parts.old.items) ≡ reverse parts.new.items) }
 {
     let inner = pop_expr(parts);
@@ -345,7 +329,7 @@ fn make_value(parts: &mut Vec<Part>) -> Result<(), AllocError>
 }
 
 fn make_call_value(parts: &mut Vec<Part>) -> Result<(), AllocError>
-    requires { has_tops kind_of (KIND_CALL ∷ []) (reverse parts.old.items) ≡ true }
+    requires { has_tops (is_call ∷ []) (reverse parts.old.items) ≡ true }
     ensures { OnOk result (made_call_value (reverse parts.old.items) ≡ reverse parts.new.items) }
 {
     let call = pop_call(parts);
@@ -355,7 +339,7 @@ fn make_call_value(parts: &mut Vec<Part>) -> Result<(), AllocError>
 }
 
 fn make_operand(alloc: Global, parts: &mut Vec<Part>) -> Result<(), AllocError>
-    requires { has_tops kind_of (KIND_HEAD ∷ []) (reverse parts.old.items) ≡ true }
+    requires { has_tops (is_head ∷ []) (reverse parts.old.items) ≡ true }
     ensures { OnOk result (made_operand (reverse parts.old.items) ≡ reverse parts.new.items) }
 {
     let head = pop_head(parts);
@@ -365,7 +349,7 @@ fn make_operand(alloc: Global, parts: &mut Vec<Part>) -> Result<(), AllocError>
 }
 
 fn make_binary(alloc: Global, parts: &mut Vec<Part>) -> Result<(), AllocError>
-    requires { has_tops kind_of (KIND_EXPR ∷ KIND_TOKEN ∷ KIND_EXPR ∷ []) (reverse parts.old.items) ≡ true }
+    requires { has_tops (is_expr ∷ is_token ∷ is_expr ∷ []) (reverse parts.old.items) ≡ true }
     ensures { OnOk result (made_binary (reverse parts.old.items) ≡ reverse parts.new.items) }
 {
     let right = pop_expr(parts);
@@ -377,7 +361,7 @@ fn make_binary(alloc: Global, parts: &mut Vec<Part>) -> Result<(), AllocError>
 }
 
 fn make_name(parts: &mut Vec<Part>) -> Result<(), AllocError>
-    requires { has_tops kind_of (KIND_TOKEN ∷ []) (reverse parts.old.items) ≡ true }
+    requires { has_tops (is_token ∷ []) (reverse parts.old.items) ≡ true }
     ensures { OnOk result (made_name (reverse parts.old.items) ≡ reverse parts.new.items) }
 {
     let token = pop_token(parts);
@@ -387,7 +371,7 @@ fn make_name(parts: &mut Vec<Part>) -> Result<(), AllocError>
 }
 
 fn make_select(alloc: Global, parts: &mut Vec<Part>) -> Result<(), AllocError>
-    requires { has_tops kind_of (KIND_TOKEN ∷ KIND_TOKEN ∷ KIND_EXPR ∷ []) (reverse parts.old.items) ≡ true }
+    requires { has_tops (is_token ∷ is_token ∷ is_expr ∷ []) (reverse parts.old.items) ≡ true }
     ensures { OnOk result (made_select (reverse parts.old.items) ≡ reverse parts.new.items) }
 {
     let name = pop_token(parts);
@@ -399,7 +383,7 @@ fn make_select(alloc: Global, parts: &mut Vec<Part>) -> Result<(), AllocError>
 }
 
 fn make_first(parts: &mut Vec<Part>) -> Result<(), AllocError>
-    requires { has_tops kind_of (KIND_EXPR ∷ KIND_ARGS ∷ []) (reverse parts.old.items) ≡ true }
+    requires { has_tops (is_expr ∷ is_args ∷ []) (reverse parts.old.items) ≡ true }
     ensures { OnOk result (made_first (reverse parts.old.items) ≡ reverse parts.new.items) }
 {
     let last = pop_expr(parts);
@@ -410,7 +394,7 @@ fn make_first(parts: &mut Vec<Part>) -> Result<(), AllocError>
 }
 
 fn make_next(parts: &mut Vec<Part>) -> Result<(), AllocError>
-    requires { has_tops kind_of (KIND_EXPR ∷ KIND_TOKEN ∷ KIND_ARGS ∷ []) (reverse parts.old.items) ≡ true }
+    requires { has_tops (is_expr ∷ is_token ∷ is_args ∷ []) (reverse parts.old.items) ≡ true }
     ensures { OnOk result (made_next (reverse parts.old.items) ≡ reverse parts.new.items) }
 {
     let last = pop_expr(parts);
@@ -424,8 +408,8 @@ fn make_next(parts: &mut Vec<Part>) -> Result<(), AllocError>
 /// Does an act on the parts, the last of them on top.
 fn make(alloc: Global, act: u8, parts: &mut Vec<Part>) -> Result<(), AllocError>
     requires behind_marks { FIRST_ACT ≤ act }
-    requires accepted { accepts kind_of acts act (reverse parts.old.items) ≡ true }
-    ensures { OnOk result (made_by acts act (reverse parts.old.items) ≡ reverse parts.new.items) }
+    requires accepted { accepts sample_acts act (reverse parts.old.items) ≡ true }
+    ensures { OnOk result (made_by sample_acts act (reverse parts.old.items) ≡ reverse parts.new.items) }
 {
     match act {
         ACT_BEGIN => make_begin(alloc, parts),
@@ -460,8 +444,8 @@ fn make(alloc: Global, act: u8, parts: &mut Vec<Part>) -> Result<(), AllocError>
 
 /// The parts that the steps leave of the tokens.
 fn build_parts(alloc: Global, steps: &[Step], tokens: &[Token]) -> Result<Vec<Part>, AllocError>
-    requires { IsSome (run PToken (act_of kind_of acts) steps.now tokens.now []) }
-    ensures { IfOk result (λ parts. run PToken (act_of kind_of acts) steps.now tokens.now [] ≡ Some (reverse parts.items)) }
+    requires { IsSome (sample_built steps.now tokens.now) }
+    ensures { IfOk result (λ parts. sample_built steps.now tokens.now ≡ Some (reverse parts.items)) }
 {
     let mut parts = Vec::new(alloc);
     let mut rest = tokens;
@@ -484,11 +468,24 @@ fn build_parts(alloc: Global, steps: &[Step], tokens: &[Token]) -> Result<Vec<Pa
     Ok(parts)
 }
 
-/// What the steps of a derivation of a whole text build of its tokens.
-pub fn build(alloc: Global, steps: &[Step], tokens: &[Token]) -> Result<Items<Stmt>, AllocError>
-    requires { is_whole kind_of KIND_STMTS (run PToken (act_of kind_of acts) steps.now tokens.now []) ≡ true }
-    ensures { IfOk result (λ whole. run PToken (act_of kind_of acts) steps.now tokens.now [] ≡ Some (PStmts whole ∷ [])) }
+/// What the steps of a derivation of a whole Block build of its tokens.
+pub fn build_stmts(
+    alloc: Global,
+    steps: &[Step],
+    tokens: &[Token],
+) -> Result<Items<Stmt>, AllocError>
+    requires { is_whole is_stmts (sample_built steps.now tokens.now) ≡ true }
+    ensures { IfOk result (λ whole. sample_built steps.now tokens.now ≡ Some (PStmts whole ∷ [])) }
 {
     let mut parts = build_parts(alloc, steps, tokens)?;
     Ok(pop_stmts(&mut parts))
+}
+
+/// What the steps of a derivation of a whole Sum build of its tokens.
+pub fn build_expr(alloc: Global, steps: &[Step], tokens: &[Token]) -> Result<Expr, AllocError>
+    requires { is_whole is_expr (sample_built steps.now tokens.now) ≡ true }
+    ensures { IfOk result (λ whole. sample_built steps.now tokens.now ≡ Some (PExpr whole ∷ [])) }
+{
+    let mut parts = build_parts(alloc, steps, tokens)?;
+    Ok(pop_expr(&mut parts))
 }

@@ -1,7 +1,7 @@
 //! The sample grammar as tables. Made by tools/grammar.py from sample.grammar: edit that.
-ghost use Rattle.std.specs.Prelude.{◌≡◌, true};
+ghost use Rattle.std.specs.Prelude.{◌≡◌};
 ghost use Rattle.gv_grammar.specs.Derivation.{tables_of};
-ghost use Rattle.gv_grammar.specs.Predictive.{is_predictive};
+ghost use Rattle.gv_grammar.specs.Predictive.{MayBegin};
 ghost use Rattle.grammar_sample.specs.SampleTable.{sample_tables};
 
 use gv_grammar::{Grammar, OPEN, OPEN_BEFORE, RESTORE, SAVE, Symbol};
@@ -268,6 +268,8 @@ pub const RULE_MORE_ARGS_MORE: u16 = 45;
 
 pub const RULE_MORE_ARGS_END: u16 = 46;
 
+pub static ROOTS: [u8; 2] = [0, 14];
+
 pub static NAMES: [u8; 47] = [
     0, 1, 1, 2, 2, 3, 3, 3, 4, 5, 6, 6, 7, 7, 8, 8, 9, 10, 10, 10, 11, 11, 11, 12, 12, 13, 13, 13,
     14, 15, 15, 16, 17, 17, 18, 18, 19, 19, 20, 20, 20, 21, 21, 22, 22, 23, 23,
@@ -509,13 +511,13 @@ pub static TABLE: [u16; 456] = [
     0, 17, 0, 0, 0, 0, 0, 0, 19, 0, 0, 0, 20, 20, 0, 0, 0, 0, 0, 0, 18, 0, 0, 0, 23, 22, 22, 22, 0,
     0, 0, 0, 0, 21, 0, 0, 0, 0, 0, 0, 0, 0, 0, 0, 0, 0, 0, 0, 0, 25, 0, 0, 0, 25, 25, 25, 0, 25,
     24, 0, 0, 0, 0, 0, 0, 27, 0, 0, 28, 0, 0, 0, 28, 28, 28, 0, 28, 26, 0, 0, 0, 29, 29, 29, 29, 0,
-    0, 0, 0, 0, 29, 0, 0, 0, 0, 0, 0, 0, 0, 0, 0, 0, 0, 0, 31, 31, 31, 0, 0, 0, 30, 30, 0, 31, 31,
-    0, 0, 0, 0, 32, 32, 32, 32, 0, 0, 0, 0, 0, 32, 0, 0, 0, 0, 0, 0, 0, 0, 0, 0, 0, 0, 0, 34, 34,
+    0, 0, 0, 0, 29, 0, 0, 0, 0, 0, 0, 0, 0, 31, 0, 0, 0, 0, 31, 31, 31, 0, 0, 0, 30, 30, 0, 31, 31,
+    0, 0, 0, 0, 32, 32, 32, 32, 0, 0, 0, 0, 0, 32, 0, 0, 0, 0, 0, 0, 0, 0, 34, 0, 0, 0, 0, 34, 34,
     34, 0, 0, 0, 34, 34, 33, 34, 34, 0, 0, 0, 0, 36, 36, 36, 36, 0, 0, 0, 0, 0, 35, 0, 0, 0, 0, 0,
     0, 0, 0, 0, 38, 37, 37, 37, 0, 0, 0, 0, 0, 0, 0, 0, 0, 0, 0, 0, 0, 0, 0, 0, 39, 40, 41, 0, 0,
-    0, 0, 0, 0, 0, 0, 0, 0, 0, 0, 0, 0, 0, 0, 0, 0, 0, 43, 43, 43, 0, 0, 0, 43, 43, 43, 43, 43, 42,
-    0, 0, 0, 44, 44, 44, 44, 45, 0, 0, 0, 0, 44, 0, 0, 0, 0, 0, 0, 0, 0, 0, 0, 0, 0, 0, 47, 46, 0,
-    0, 0, 0, 0, 0, 0, 0, 0, 0, 0, 0,
+    0, 0, 0, 0, 0, 0, 0, 0, 0, 0, 0, 0, 43, 0, 0, 0, 0, 43, 43, 43, 0, 0, 0, 43, 43, 43, 43, 43,
+    42, 0, 0, 0, 44, 44, 44, 44, 45, 0, 0, 0, 0, 44, 0, 0, 0, 0, 0, 0, 0, 0, 0, 0, 0, 0, 0, 47, 46,
+    0, 0, 0, 0, 0, 0, 0, 0, 0, 0, 0, 0,
 ];
 
 pub const WIDTH: u8 = 19;
@@ -523,9 +525,11 @@ pub const WIDTH: u8 = 19;
 /// The sample grammar.
 pub fn sample_grammar() -> Grammar
     ensures tables { tables_of result ≡ sample_tables }
-    ensures predictive { is_predictive (tables_of result) ≡ true }
+    ensures block { MayBegin (tables_of result) NAME_BLOCK }
+    ensures sum { MayBegin (tables_of result) NAME_SUM }
 {
     Grammar {
+        roots: &ROOTS,
         names: &NAMES,
         symbols: &SYMBOLS,
         starts: &STARTS,
