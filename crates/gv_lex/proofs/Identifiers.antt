@@ -1,9 +1,9 @@
 -- The pieces that are words are exactly the identifiers.
 use Rattle.std.proofs.Common.{◌≡◌, ◌≤◌, ◌<◌, ◌+◌, ◌&&◌, ◌||◌, ◌⊎◌, inl, inr, ℕ, zero, suc, Bool, true, false, cond, eqb, List, [], ◌∷◌, length, slice_index, refl, ◌∙◌, ap, arith}
 use Rattle.std.proofs.lemmas.Bool.Decides.{nat_tests}
-use Rattle.gv_tokens.specs.Bytes.{is_blank}
-use Rattle.gv_tokens.specs.Cutting.{IsPiece}
-use Rattle.gv_tokens.specs.Scanning.{piece}
+use Rattle.gv_text.specs.Bytes.{is_blank}
+use Rattle.gv_text.specs.Cutting.{IsPiece}
+use Rattle.gv_text.specs.Scanning.{piece}
 use Rattle.gv_lex.specs.declared.form.Form.{Form}
 use Rattle.gv_lex.specs.declared.form.Form.TheVariants.{Blank, Comment, Word}
 use Rattle.gv_lex.specs.Bytes.{is_name_start, is_name_byte, is_dot}

@@ -1,5 +1,5 @@
 pub mod Identifiers
-pub mod OwnFronts
 pub mod OwnPieces
-pub mod Values
+pub mod OwnPrefixes
+pub mod OwnWords
 mod Worked

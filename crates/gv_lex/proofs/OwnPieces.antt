@@ -4,11 +4,11 @@ use Rattle.std.proofs.lemmas.List.{length-take-le}
 use Rattle.gv_base.specs.Tokens.{AreSpans}
 use Rattle.gv_base.specs.declared.token.Kind.{Kind}
 use Rattle.gv_base.specs.declared.token.Token.{Token}
-use Rattle.gv_tokens.specs.Cutting.{Piece}
-use Rattle.gv_tokens.specs.Scanning.{IsNext}
-use Rattle.gv_tokens.proofs.Cuts.{HasReadTo}
-use Rattle.gv_tokens.proofs.NextPieces.{turned}
-use Rattle.gv_tokens.proofs.Spans.{LaysInOrder}
+use Rattle.gv_text.specs.Cutting.{Piece}
+use Rattle.gv_text.specs.Scanning.{IsNext}
+use Rattle.gv_text.proofs.Cuts.{HasReadTo}
+use Rattle.gv_text.proofs.NextPieces.{turned}
+use Rattle.gv_text.proofs.Spans.{LaysInOrder}
 use Rattle.gv_lex.specs.declared.form.Form.{Form}
 use Rattle.gv_lex.specs.Layout.{kind_of, token_for, laid}
 use Rattle.gv_lex.specs.Reading.{own}

@@ -2,13 +2,13 @@
 use Rattle.std.proofs.Common.{◌≡◌, Some, None, [], ◌∷◌, codes, refl}
 use Rattle.gv_base.specs.declared.answers.Code.TheVariants as fault
 use Rattle.gv_base.specs.declared.token.Kind.TheVariants as kind
-use Rattle.gv_tokens.specs.Layout.{token}
-use Rattle.gv_tokens.specs.Scanning.{piece}
+use Rattle.gv_text.specs.Tokens.{token}
+use Rattle.gv_text.specs.Scanning.{piece}
+use Rattle.gv_text.specs.Digits.{value_of}
 use Rattle.gv_lex.specs.declared.form.Form.TheVariants.{Blank, Comment, Word, Number, Literal, Sign}
 use Rattle.gv_lex.specs.Forms.{form_of}
 use Rattle.gv_lex.specs.Layout.{laid}
 use Rattle.gv_lex.specs.Names.{name_rest}
-use Rattle.gv_lex.specs.Numbers.{value_of}
 use Rattle.gv_lex.specs.Pieces.{length_of, fault_of}
 use Rattle.gv_lex.specs.Signs.{is_sign, sign_length}
 

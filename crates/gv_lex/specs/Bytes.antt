@@ -1,7 +1,7 @@
 -- Classes of bytes.
 use Rattle.std.specs.Prelude.{ℕ, Bool, ◌||◌, ◌==◌}
 use Rattle.std.specs.Char.{is_ascii_alphabetic, is_ascii_alphanumeric, is_digit}
-use Rattle.gv_tokens.specs.Bytes.{is_underscore}
+use Rattle.gv_text.specs.Bytes.{is_underscore}
 
 -- what an identifier may begin with: an ASCII letter or `_`
 abbrev pub is_name_start : ℕ → Bool

@@ -1,6 +1,6 @@
 -- The form of the piece of a text that begins at a place.
 use Rattle.std.specs.Prelude.{ℕ, ◌&&◌, ◌==◌, if◌then◌else◌, List, slice_index}
-use Rattle.gv_tokens.specs.Bytes.{is_blank, is_decimal}
+use Rattle.gv_text.specs.Bytes.{is_blank, is_decimal}
 use Rattle.gv_lex.specs.declared.form.Form.{Form}
 use Rattle.gv_lex.specs.declared.form.Form.TheVariants.{Blank, Comment, Word, Number, Literal, Sign}
 use Rattle.gv_lex.specs.Bytes.{is_name_start, is_hash}

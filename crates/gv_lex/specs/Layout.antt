@@ -3,8 +3,8 @@ use Rattle.std.specs.Prelude.{ℕ, ◌+◌, Option, Some, None, List, [], ◌∷
 use Rattle.gv_base.specs.declared.token.Kind.{Kind}
 use Rattle.gv_base.specs.declared.token.Kind.TheVariants as kind
 use Rattle.gv_base.specs.declared.token.Token.{Token}
-use Rattle.gv_tokens.specs.Cutting.{Piece}
-use Rattle.gv_tokens.specs.Layout.{sign_kind, token}
+use Rattle.gv_text.specs.Cutting.{Piece}
+use Rattle.gv_text.specs.Tokens.{sign_kind, token}
 use Rattle.gv_lex.specs.declared.form.Form.{Form}
 use Rattle.gv_lex.specs.declared.form.Form.TheVariants.{Blank, Comment, Word, Number, Literal, Sign}
 

@@ -1,10 +1,10 @@
 -- Literals of bytes as pieces: `#` and hexadecimal digits.
 use Rattle.std.specs.Prelude.{ℕ, ◌%◌, Bool, ◌==◌, List, length, drop}
 use Rattle.std.specs.List.{prefix_len}
-use Rattle.gv_tokens.specs.Lengths.{optional}
+use Rattle.gv_text.specs.Lengths.{optional}
 use Rattle.gv_lex.specs.Bytes.{is_hash, is_hex}
 
--- the hexadecimal digits at the front
+-- the hexadecimal digits at the start
 abbrev pub hex_run : List ℕ → ℕ
 hex_run text = prefix_len is_hex text
 

@@ -1,6 +1,6 @@
 -- Identifiers as pieces.
 use Rattle.std.specs.Prelude.{◌≡◌, ℕ, suc, ◌+◌, ◌<◌, Bool, true, ◌||◌, ◌&&◌, ◌⊎◌, if◌then◌else◌, List, [], ◌∷◌, length, slice_index}
-use Rattle.gv_tokens.specs.Lengths.{optional}
+use Rattle.gv_text.specs.Lengths.{optional}
 use Rattle.gv_lex.specs.Bytes.{is_name_start, is_name_byte, is_dot}
 
 -- a letter, a digit or `_`, or a dot with one of these after it, by a byte and the one after it, 0 where there is none
@@ -26,8 +26,7 @@ abbrev pub GoesOnAfter : List ℕ → ℕ → Type 0
 GoesOnAfter bytes k =
     IsNameByte bytes (suc k) ⊎ ((is_dot (slice_index bytes (suc k)) ≡ true) × IsNameByte bytes k × IsNameByte bytes (suc (suc k)))
 
--- A letter or `_`, and then letters, digits, `_` and single dots between two of these. The pieces that are words are exactly
--- these (`word_is_identifier`, `identifier_is_word`).
+-- an ASCII letter or `_`, and then letters, digits, `_` and single dots between two of these
 pub record IsIdentifier (bytes : List ℕ) : Type 0 where
   pub start : is_name_start (slice_index bytes 0) ≡ true
   pub goes_on : (k : ℕ) → suc k < length bytes → GoesOnAfter bytes k

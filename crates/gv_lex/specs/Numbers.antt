@@ -1,10 +1,12 @@
 -- Numbers as pieces, right and wrong.
-use Rattle.std.specs.Prelude.{ℕ, ◌+◌, ◌*◌, ◌^◌, Bool, not, ◌||◌, ◌&&◌, ◌==◌, nat_le, if◌then◌else◌, Option, Some, None, List, length, drop, fold, slice_index}
-use Rattle.std.specs.Char.{is_digit, digit_value}
+use Rattle.std.specs.Prelude.{ℕ, ◌^◌, Bool, not, ◌||◌, ◌&&◌, ◌==◌, nat_le, if◌then◌else◌, List, length, drop, slice_index}
+use Rattle.std.specs.Char.{is_digit}
 use Rattle.std.specs.List.{list_all, prefix_len}
+use Rattle.gv_text.specs.Digits.{value_of}
+use Rattle.gv_termread.specs.Numbers.{has_prefix}
 use Rattle.gv_lex.specs.Bytes.{is_name_byte}
 
--- the letters, digits and `_` at the front
+-- the letters, digits and `_` at the start
 abbrev pub number_length : List ℕ → ℕ
 number_length text = prefix_len is_name_byte text
 
@@ -12,19 +14,9 @@ number_length text = prefix_len is_name_byte text
 abbrev pub are_digits : ℕ → List ℕ → Bool
 are_digits radix bytes = not (length bytes == 0) && list_all (λ b. is_digit b radix) bytes
 
-abbrev pub with_digit : ℕ → ℕ → ℕ → ℕ
-with_digit radix n b = n * radix + digit_value b
-
--- the value of digits
-unfoldable pub value_of : ℕ → List ℕ → ℕ
-value_of radix digits = fold (with_digit radix) 0 digits
-
 -- the largest number that a text may hold
 abbrev pub largest : ℕ
 largest = 2 ^ 127
-
-abbrev pub fitting : ℕ → Option ℕ
-fitting n = if nat_le n largest then Some n else None
 
 -- decimal digits without a leading zero, up to the largest number
 abbrev pub is_right_decimal : List ℕ → Bool
@@ -34,10 +26,6 @@ is_right_decimal digits =
 -- hexadecimal digits of either case, up to the largest number
 abbrev pub is_right_hexadecimal : List ℕ → Bool
 is_right_hexadecimal digits = are_digits 16 digits && nat_le (value_of 16 digits) largest
-
--- whether bytes begin with `0x`
-abbrev pub has_prefix : List ℕ → Bool
-has_prefix bytes = slice_index bytes 0 == 48 && slice_index bytes 1 == 120
 
 -- a decimal number, or `0x` and hexadecimal digits
 abbrev pub is_right_number : List ℕ → Bool

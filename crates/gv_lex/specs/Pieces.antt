@@ -2,9 +2,7 @@
 use Rattle.std.specs.Prelude.{ℕ, if◌then◌else◌, Option, Some, None, option_map, List}
 use Rattle.gv_base.specs.declared.answers.Code.{Code}
 use Rattle.gv_base.specs.declared.answers.Code.TheVariants.{BadNumber}
-use Rattle.gv_tokens.specs.Bytes.{is_blank}
-use Rattle.gv_tokens.specs.Comments.{line_length}
-use Rattle.gv_tokens.specs.Lengths.{nothing, optional}
+use Rattle.gv_text.specs.Gaps.{blank_length, line_length}
 use Rattle.gv_lex.specs.declared.form.Form.{Form}
 use Rattle.gv_lex.specs.declared.form.Form.TheVariants.{Blank, Comment, Word, Number, Literal, Sign}
 use Rattle.gv_lex.specs.Literals.{literal_length, has_whole_bytes}
@@ -12,9 +10,9 @@ use Rattle.gv_lex.specs.Names.{name_length}
 use Rattle.gv_lex.specs.Numbers.{number_length, is_right_number}
 use Rattle.gv_lex.specs.Signs.{sign_length}
 
--- how many bytes a piece of a form takes at the front of a text, or 0
+-- how many bytes a piece of a form takes at the start of a text, or 0
 abbrev pub length_of : Form → List ℕ → ℕ
-length_of Blank text = optional is_blank nothing text
+length_of Blank text = blank_length text
 length_of Comment text = line_length text
 length_of Word text = name_length text
 length_of Number text = number_length text

@@ -1,6 +1,6 @@
 -- Operators and punctuation.
 use Rattle.std.specs.Prelude.{ℕ, Bool, ◌||◌, if◌then◌else◌, List, [], ◌∷◌, length, take, codes}
-use Rattle.gv_tokens.specs.Signs.{is_among}
+use Rattle.gv_text.specs.Signs.{is_among}
 
 abbrev pub signs_of_one : List (List ℕ)
 signs_of_one =

@@ -3,7 +3,7 @@
 ghost use Rattle.std.specs.Prelude.{◌≡◌};
 ghost use Rattle.gv_lex.specs.Bytes as spec;
 
-use gv_tokens::is_digit;
+use gv_text::is_digit;
 
 /// Whether an identifier may begin with a byte.
 pub fn is_name_start(byte: u8) -> bool

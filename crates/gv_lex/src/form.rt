@@ -4,7 +4,7 @@ ghost use Rattle.std.specs.Prelude.{◌≡◌};
 ghost use Rattle.gv_lex.specs.Forms as spec;
 
 use crate::bytes::is_name_start;
-use gv_tokens::{is_blank, is_decimal};
+use gv_text::{is_blank, is_decimal};
 
 /// What a piece of a text is by its first bytes.
 #[derive(Clone, Copy, Debug, PartialEq, Eq)]

@@ -5,7 +5,7 @@ ghost use Rattle.gv_lex.specs.Layout as spec;
 
 use crate::form::Form;
 use gv_base::{Kind, NoMemory, Token};
-use gv_tokens::sign_kind;
+use gv_text::sign_kind;
 
 fn kind_of(form: Form, bytes: &[u8]) -> Option<Kind>
     ensures { result ≡ spec.kind_of form bytes.now }

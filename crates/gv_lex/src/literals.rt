@@ -5,7 +5,7 @@ ghost use Rattle.gv_lex.specs.Literals as spec;
 
 use crate::bytes::is_hex;
 
-/// How many bytes the literal at the front of a text has, or 0 where there is none.
+/// How many bytes the literal at the start of a text has, or 0 where there is none.
 pub fn literal_len(text: &[u8]) -> usize
     ensures value { result ≡ spec.literal_length text.now }
     ensures within { result ≤ length text.now }

@@ -6,7 +6,7 @@ ghost use Rattle.gv_lex.specs.Names as spec;
 
 use crate::bytes::{is_name_byte, is_name_start};
 
-/// How many bytes the identifier at the front of a text has, or 0 where there is none.
+/// How many bytes the identifier at the start of a text has, or 0 where there is none.
 pub fn name_len(text: &[u8]) -> usize
     ensures value { result ≡ spec.name_length text.now }
     ensures within { result ≤ length text.now }

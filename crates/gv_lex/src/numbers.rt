@@ -6,12 +6,12 @@ ghost use Rattle.std.specs.List.{list_all};
 ghost use Rattle.gv_lex.specs.Numbers as spec;
 
 use crate::bytes::is_name_byte;
-use gv_tokens::is_digit;
+use gv_text::{is_digit, value_of};
 
 // The largest number that a text may hold.
 const LARGEST: u128 = 1 << 127;
 
-/// How many letters, digits and `_` are at the front of a text.
+/// How many letters, digits and `_` are at the start of a text.
 pub fn number_len(text: &[u8]) -> usize
     ensures value { result ≡ spec.number_length text.now }
     ensures within { result ≤ length text.now }
@@ -40,45 +40,18 @@ fn all_digits(bytes: &[u8], radix: u32) -> bool
     bytes.iter().all(|byte| is_digit(*byte, radix))
 }
 
-/// The value of digits, or `None` where it is above the largest number, 2^127.
-#[tactic(auto, unfolding(crate::specs::Numbers::value_of))]
-pub fn value_of(digits: &[u8], radix: u32) -> Option<u128>
-    requires least { 2 ≤ radix }
-    requires most { radix ≤ 36 }
-    ensures { result ≡ spec.fitting (spec.value_of radix digits.now) }
-{
-    let mut value: u128 = 0;
-    for byte in digits {
-        match with_digit(value, radix, *byte) {
-            Some(next) => value = next,
-            None => return None,
-        }
-    }
-    Some(value)
-}
-
-fn with_digit(value: u128, radix: u32, byte: u8) -> Option<u128>
-    requires least { 2 ≤ radix }
-    requires most { radix ≤ 36 }
-    ensures { result ≡ spec.fitting (spec.with_digit radix value byte) }
-{
-    let digit = (byte as char).to_digit(36).unwrap_or(36);
-    let next = value
-        .checked_mul(u128::from(radix))?
-        .checked_add(u128::from(digit))?;
-    if next <= LARGEST { Some(next) } else { None }
-}
-
 fn is_right_decimal(bytes: &[u8]) -> bool
     ensures { result ≡ spec.is_right_decimal bytes.now }
 {
-    are_digits(bytes, 10) && (bytes.len() == 1 || bytes[0] != b'0') && value_of(bytes, 10).is_some()
+    are_digits(bytes, 10)
+        && (bytes.len() == 1 || bytes[0] != b'0')
+        && value_of(bytes, 10, LARGEST).is_some()
 }
 
 fn is_right_hexadecimal(digits: &[u8]) -> bool
     ensures { result ≡ spec.is_right_hexadecimal digits.now }
 {
-    are_digits(digits, 16) && value_of(digits, 16).is_some()
+    are_digits(digits, 16) && value_of(digits, 16, LARGEST).is_some()
 }
 
 /// Whether bytes are a number up to the largest one.

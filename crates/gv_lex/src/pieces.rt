@@ -9,9 +9,9 @@ use crate::names::name_len;
 use crate::numbers::{is_right_number, number_len};
 use crate::signs::sign_len;
 use gv_base::Code;
-use gv_tokens::{blank_len, line_len};
+use gv_text::{blank_len, line_len};
 
-/// How many bytes a piece of a form takes at the front of a text, or 0.
+/// How many bytes a piece of a form takes at the start of a text, or 0.
 pub fn len_of(form: Form, text: &[u8]) -> usize
     ensures value { result ≡ spec.length_of form text.now }
     ensures within { result ≤ length text.now }

@@ -9,16 +9,11 @@ use Rattle.std.specs.Int.{w128}
 use Rattle.gv_linear.specs.declared.row.Row.{Row}
 use Rattle.gv_linear.specs.Row.{coefficient, entry}
 use Rattle.gv_linear.specs.Columns.{products, total, IsNarrow}
+use Rattle.gv_linear.specs.Answer.{IsSummedTo}
 use Rattle.gv_linear.proofs.SoundLemmas.{total-cons}
 
--- the columns before this one are narrow; whether they all sum to 0
-pub record IsSummedTo (rows : List Row) (factors : List ℤ) (unknowns column : ℕ) (zero : Bool) : Type 0 where
-  pub within : column ≤ unknowns
-  pub narrow : (c : ℕ) → c < column → IsNarrow (products rows factors unknowns c)
-  pub zeros : MatchBool zero ((c : ℕ) → c < column → total (products rows factors unknowns c) ≡ pos 0) (((c : ℕ) → c < unknowns → total (products rows factors unknowns c) ≡ pos 0) → ⊥)
-
 -- a column in which no row has anything
-nothing_in : (rows : List Row) (factors : List ℤ) (unknowns c : ℕ) → c < unknowns → All (λ row. coefficient c row.items ≡ pos 0) rows → All (λ z. z ≡ pos 0) (products rows factors unknowns c)
+pub nothing_in : (rows : List Row) (factors : List ℤ) (unknowns c : ℕ) → c < unknowns → All (λ row. coefficient c row.items ≡ pos 0) rows → All (λ z. z ≡ pos 0) (products rows factors unknowns c)
 nothing_in [] factors unknowns c h none k d l = absurd (omega arith)
 nothing_in (row ∷ rows) [] unknowns c h none k d l = absurd (omega arith)
 nothing_in (row ∷ rows) (f ∷ factors) unknowns c h none zero d l =
@@ -27,7 +22,7 @@ nothing_in (row ∷ rows) (f ∷ factors) unknowns c h none zero d l =
     ap (λ y. f *ℤ y) at ∙ *ℤ-zero f
 nothing_in (row ∷ rows) (f ∷ factors) unknowns c h none (suc k) d l = nothing_in rows factors unknowns c h (λ k d l. none (suc k) d (omega arith)) k d (omega arith)
 
-total_of_zeros : (ps : List ℤ) → All (λ z. z ≡ pos 0) ps → total ps ≡ pos 0
+pub total_of_zeros : (ps : List ℤ) → All (λ z. z ≡ pos 0) ps → total ps ≡ pos 0
 total_of_zeros [] h = refl
 total_of_zeros (p ∷ ps) h =
     let head : p ≡ pos 0 = h 0 p (omega arith) in
@@ -44,14 +39,14 @@ zeros_in_front (p ∷ ps) (suc n) h (suc k) d l = zeros_in_front ps n (λ k d l.
 zero_fits : (z : ℤ) → z ≡ pos 0 → FitsSigned w128 z
 zero_fits z e = subst (λ y. FitsSigned w128 y) (sym e) (search rules)
 
-zeros_narrow : (ps : List ℤ) → All (λ z. z ≡ pos 0) ps → IsNarrow ps
+pub zeros_narrow : (ps : List ℤ) → All (λ z. z ≡ pos 0) ps → IsNarrow ps
 zeros_narrow ps h r wide = elim wide.1 [ inl product ↦ product (zero_fits (get_or ps r (pos 0)) (h r (pos 0) wide.0)) | inr sum ↦ sum (zero_fits (total (take (r + 1) ps)) (total_of_zeros (take (r + 1) ps) (zeros_in_front ps (r + 1) h))) ]
 
 -- the program's test for 0
-is_zero : (sum : ℤ) → FitsSigned w128 sum → true ≡ eqb (of_z w128 sum) 0 → sum ≡ pos 0
+pub is_zero : (sum : ℤ) → FitsSigned w128 sum → true ≡ eqb (of_z w128 sum) 0 → sum ≡ pos 0
 is_zero sum fits h = grind (arith, ints)
 
-is_other : (sum : ℤ) → false ≡ eqb (of_z w128 sum) 0 → sum ≡ pos 0 → ⊥
+pub is_other : (sum : ℤ) → false ≡ eqb (of_z w128 sum) 0 → sum ≡ pos 0 → ⊥
 is_other sum h e = grind (arith, ints)
 
 -- ---- on from a column to the next one that occurs

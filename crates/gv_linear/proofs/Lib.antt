@@ -3,4 +3,5 @@ pub mod RowLemmas
 pub mod SoundLemmas
 pub mod AnswerLemmas
 pub mod ColumnLemmas
+pub mod WindowLemmas
 pub mod CheckLemmas

@@ -1,5 +1,5 @@
 -- What a check of factors is to answer.
-use Rattle.std.specs.Prelude.{◌≡◌, ℕ, ◌<◌, ◌≤◌, ℤ, pos, ◌<ℤ◌, List, length, false}
+use Rattle.std.specs.Prelude.{◌≡◌, ℕ, ◌<◌, ◌≤◌, ℤ, pos, ◌<ℤ◌, List, length, Bool, false, MatchBool}
 use Rattle.std.specs.List.{zip, HoldsAt}
 use Rattle.gv_linear.specs.declared.row.Row.{Row}
 use Rattle.gv_linear.specs.declared.answer.Linear.{Linear}
@@ -36,6 +36,14 @@ pub record IsContradiction (rows : List Row) (factors : List ℤ) (unknowns : �
 pub record IsSummed (rows : List Row) (factors : List ℤ) (unknowns : ℕ) : Type 0 where
   pub signed : (r : ℕ) → ¬ IsNegativeAt rows factors r
   pub narrow : (c : ℕ) → c ≤ unknowns → IsNarrow (products rows factors unknowns c)
+
+-- the columns before one are narrow; whether they all sum to 0
+pub record IsSummedTo (rows : List Row) (factors : List ℤ) (unknowns column : ℕ) (zero : Bool) : Type 0 where
+  pub within : column ≤ unknowns
+  pub narrow : (c : ℕ) → c < column → IsNarrow (products rows factors unknowns c)
+  pub zeros : MatchBool zero
+      ((c : ℕ) → c < column → total (products rows factors unknowns c) ≡ pos 0)
+      (((c : ℕ) → c < unknowns → total (products rows factors unknowns c) ≡ pos 0) → ⊥)
 
 -- ---- the answer
 

@@ -7,7 +7,7 @@ ghost use Rattle.gv_linear.specs.Columns.{IsAdded, products, total, IsFirstWideI
 use crate::row::Row;
 
 // A product added to a sum, where both fit 128 bits.
-fn added(sum: i128, factor: i128, entry: i128) -> Option<i128>
+pub(crate) fn added(sum: i128, factor: i128, entry: i128) -> Option<i128>
     ensures { IsAdded sum (factor *ℤ entry) result }
 {
     match factor.checked_mul(entry) {

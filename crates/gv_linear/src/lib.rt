@@ -5,8 +5,7 @@ mod answer;
 mod check;
 mod columns;
 mod row;
-#[cfg(test)]
-mod tests;
+mod window;
 
 pub use answer::Linear;
 pub use check::check_linear;

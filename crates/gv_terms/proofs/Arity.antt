@@ -10,10 +10,9 @@ use Rattle.gv_terms.specs.declared.operator.Operator.TheVariants as op
 use Rattle.gv_terms.specs.declared.tree.Head.{Head}
 use Rattle.gv_terms.specs.declared.tree.Head.TheVariants as head
 use Rattle.gv_terms.specs.declared.tree.TermTree.{TermTree}
-use Rattle.gv_terms.specs.declared.stored.Stored.{Stored}
 use Rattle.gv_terms.specs.Sorts.{sort_given, sort_eq, takes, with_sort, with_copies, item_sort, entry_sort, arity}
-use Rattle.gv_terms.specs.Trees.{rooted, sort_of, all_sorts, with_sorts}
-use Rattle.gv_terms.specs.Store.{tree_at, trees_at, IsSoundAt, HasParts}
+use Rattle.gv_terms.specs.Trees.{sort_of, sort_of_node, all_sorts, with_sorts}
+use Rattle.gv_terms.specs.Store.{part_count}
 use Rattle.gv_terms.proofs.NodeSorts.{sort_apply}
 
 both_true : (a b : Bool) → (a && b) ≡ true → b ≡ true
@@ -99,6 +98,8 @@ parts_counted op.Has ss r e = on_map ss 2 r (λ s entry. takes (s ∷ sort.Word 
 parts_counted op.Put ss r e = on_map ss 3 r (λ s entry. takes (s ∷ sort.Word ∷ entry ∷ []) s ss) (λ s entry f. taken (s ∷ sort.Word ∷ entry ∷ []) ss s r f) e
 parts_counted op.Del ss r e = on_map ss 2 r (λ s entry. takes (s ∷ sort.Word ∷ []) s ss) (λ s entry f. taken (s ∷ sort.Word ∷ []) ss s r f) e
 parts_counted op.SLen ss r e = taken (sort.SliceS ∷ []) ss sort.Word r e
+parts_counted op.Sl ss r e = taken (sort.SliceS ∷ sort.Word ∷ sort.Word ∷ []) ss sort.SliceS r e
+parts_counted op.SCap ss r e = taken (sort.SliceS ∷ []) ss sort.Word r e
 
 sorts_counted : (os : List (Option Sort)) (ss : List Sort) → all_sorts os ≡ Some ss → length ss ≡ length os
 sorts_counted [] ss e = let f : [] ≡ ss = cc in ap length (sym f)
@@ -113,11 +114,9 @@ given_counted : (o : Operator) (os : List (Option Sort)) (r : Sort) (ss : Option
 given_counted o os r None f e = absurd cc
 given_counted o os r (Some ss) f e = sym (sorts_counted os ss f) ∙ parts_counted o ss r e
 
-pub has_parts : (ts : List TermTree) (k : ℕ) (n : Stored) → IsSoundAt ts k n → HasParts n.head n.parts
-has_parts ts k n s = parts_of n.head (ap sort_of (sym s.shape) ∙ s.sort)
-  where
-    parts_of : (h : Head) → sort_of (rooted h (trees_at ts n.parts)) ≡ Some n.sort → HasParts h n.parts
-    parts_of (head.Variable m r) e = tt
-    parts_of (head.Apply o) e =
-        sym (length-map (trees_at ts n.parts) sort_of ∙ length-map n.parts (λ t. tree_at ts t.id))
-        ∙ given_counted o (map sort_of (trees_at ts n.parts)) n.sort (all_sorts (map sort_of (trees_at ts n.parts))) refl (sym (sort_apply o (trees_at ts n.parts)) ∙ e)
+-- a node with a sort has as many parts as its head takes
+pub node_counted : (h : Head) (ts : List TermTree) (r : Sort) → sort_of_node h ts ≡ Some r → length ts ≡ part_count h
+node_counted (head.Variable m s) [] r e = refl
+node_counted (head.Variable m s) (t ∷ ts) r e = absurd cc
+node_counted (head.Apply o) ts r e =
+    sym (length-map ts sort_of) ∙ given_counted o (map sort_of ts) r (all_sorts (map sort_of ts)) refl (sym (sort_apply o ts) ∙ e)

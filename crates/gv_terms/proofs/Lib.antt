@@ -1,4 +1,5 @@
 mod Rows
+pub mod Numbers
 pub mod Parts
 pub mod SortTests
 pub mod Equality
@@ -9,11 +10,16 @@ pub mod NodeSorts
 pub mod Places
 pub mod Trees
 pub mod SameTerms
-pub mod Marked
+pub mod Placed
+pub mod Planned
+pub mod Living
 pub mod Arity
 pub mod Valued
-pub mod TypedFacts
 pub mod Closed
+pub mod ScopeLookups
+pub mod RawTrees
+pub mod RawFaults
+pub mod RawParts
 pub mod Ascending
 pub mod MapLaws
 pub mod ValueSorts

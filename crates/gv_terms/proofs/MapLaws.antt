@@ -1,8 +1,8 @@
 -- The entries behave as a finite map.
-use Rattle.std.proofs.Common.{◌≡◌, ◌≢◌, ℕ, ◌<◌, ◌≤◌, ◌⊎◌, ⊎_elim, List, [], ◌∷◌, ◌++◌, Bool, true, false, not, cond, nat_eq, nat_lt, Option, Some, None, option_map, refl, ap, sym, ◌∙◌, arith}
+use Rattle.std.proofs.Common.{◌≡◌, ◌≢◌, ℕ, ◌<◌, ◌≤◌, ⊎_elim, List, [], ◌∷◌, ◌++◌, Bool, true, false, not, cond, nat_eq, nat_lt, Option, Some, None, option_map, refl, ap, sym, ◌∙◌, arith}
 use Rattle.std.specs.List.{filter, find}
 use Rattle.std.proofs.lemmas.Bool.{eqb-true, eq-eqb, lt-ltb, le-ltb, cases_lt}
-use Rattle.gv_terms.specs.Maps.{entry_at, with_entry, without}
+use Rattle.gv_words.specs.Maps.{entry_at, with_entry, without}
 
 abbrev some_pair : {V : Type 0} → ℕ → V → Option (ℕ × V)
 some_pair k v = Some (k, v)

@@ -6,7 +6,7 @@ use Rattle.gv_terms.specs.Places.{place_of, literal_of}
 
 -- the operators in their order, with this literal
 abbrev all_with : ℕ → List Operator
-all_with k = op.Number k ∷ op.True ∷ op.False ∷ op.Nil ∷ op.NilSlice ∷ op.NoCall ∷ op.MapWW ∷ op.MapWB ∷ op.Not ∷ op.Complement ∷ op.Or ∷ op.And ∷ op.Equal ∷ op.Less ∷ op.AtMost ∷ op.Plus ∷ op.Minus ∷ op.BitOr ∷ op.BitXor ∷ op.Times ∷ op.Divide ∷ op.Remainder ∷ op.ShiftLeft ∷ op.ShiftRight ∷ op.BitAnd ∷ op.BitClear ∷ op.If ∷ op.Imp ∷ op.Fits ∷ op.Bytes k ∷ op.Words k ∷ op.Refs k ∷ op.Blocks k ∷ op.Len ∷ op.At ∷ op.Upd ∷ op.Sub ∷ op.Cat ∷ op.IsZero ∷ op.Le64 ∷ op.Un64 ∷ op.Put64 ∷ op.Get ∷ op.Has ∷ op.Put ∷ op.Del ∷ op.SLen ∷ []
+all_with k = op.Number k ∷ op.True ∷ op.False ∷ op.Nil ∷ op.NilSlice ∷ op.NoCall ∷ op.MapWW ∷ op.MapWB ∷ op.Not ∷ op.Complement ∷ op.Or ∷ op.And ∷ op.Equal ∷ op.Less ∷ op.AtMost ∷ op.Plus ∷ op.Minus ∷ op.BitOr ∷ op.BitXor ∷ op.Times ∷ op.Divide ∷ op.Remainder ∷ op.ShiftLeft ∷ op.ShiftRight ∷ op.BitAnd ∷ op.BitClear ∷ op.If ∷ op.Imp ∷ op.Fits ∷ op.Bytes k ∷ op.Words k ∷ op.Refs k ∷ op.Blocks k ∷ op.Len ∷ op.At ∷ op.Upd ∷ op.Sub ∷ op.Cat ∷ op.IsZero ∷ op.Le64 ∷ op.Un64 ∷ op.Put64 ∷ op.Get ∷ op.Has ∷ op.Put ∷ op.Del ∷ op.SLen ∷ op.Sl ∷ op.SCap ∷ []
 
 abbrev operator_at : ℕ → ℕ → Operator
 operator_at i k = get_or (all_with k) i op.True
@@ -59,6 +59,8 @@ found op.Has = refl
 found op.Put = refl
 found op.Del = refl
 found op.SLen = refl
+found op.Sl = refl
+found op.SCap = refl
 
 pub same_operator : (o p : Operator) → place_of o ≡ place_of p → literal_of o ≡ literal_of p → o ≡ p
 same_operator o p e f =

@@ -5,7 +5,7 @@ use Rattle.gv_terms.specs.declared.operator.Operator.TheVariants as op
 use Rattle.gv_terms.specs.declared.value.Value.{Value}
 use Rattle.gv_terms.specs.declared.value.Value.TheVariants as val
 use Rattle.gv_terms.specs.Sorts.{sort_given}
-use Rattle.gv_terms.specs.Words.{le64, un64}
+use Rattle.gv_words.specs.Words.{le64, un64}
 use Rattle.gv_terms.specs.Meaning.{operate}
 
 -- Words as bytes.

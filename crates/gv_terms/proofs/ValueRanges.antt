@@ -1,5 +1,5 @@
 -- The value of an operator over values in range is in range, and so is the value of a tree.
-use Rattle.std.proofs.Common.{◌≡◌, not, ℕ, zero, suc, ◌+◌, ◌*◌, ◌/◌, ◌%◌, ◌^◌, ◌<◌, ◌≤◌, List, [], ◌∷◌, ◌++◌, Bool, true, false, ◌&&◌, cond, map, length, take, drop, set, replicate, get_or, nat_eq, nat_lt, nat_le, refl, sym, ap, ◌∙◌, subst, Option, Some, None, option_map, unwrap_or, find, filter, arith, rules, lit<, ltb-true, ltb-false, leb-true, length-drop, length-take, length-append, length-set, div-le_self}
+use Rattle.std.proofs.Common.{◌≡◌, not, ℕ, zero, suc, ◌+◌, ◌-◌, ◌*◌, ◌/◌, ◌%◌, ◌^◌, ◌<◌, ◌≤◌, List, [], ◌∷◌, ◌++◌, Bool, true, false, ◌&&◌, cond, map, length, take, drop, set, replicate, get_or, nat_eq, nat_lt, nat_le, refl, sym, ap, ◌∙◌, subst, Option, Some, None, option_map, unwrap_or, find, filter, arith, lit<, ltb-true, ltb-false, leb-true, length-drop, length-take, length-append, length-set, div-le_self}
 use Rattle.std.specs.List.{All, list_all}
 use Rattle.std.specs.Str.{bytes_eq}
 use Rattle.std.proofs.lemmas.List.{length-replicate}
@@ -14,21 +14,26 @@ use Rattle.gv_terms.specs.declared.value.Value.{Value}
 use Rattle.gv_terms.specs.declared.value.Value.TheVariants as val
 use Rattle.gv_terms.specs.declared.value.Binding.{Binding}
 use Rattle.gv_terms.specs.declared.value.Env.{Env}
-use Rattle.gv_terms.specs.declared.tree.TermTree.{TermTree, the_lemmas}
+use Rattle.gv_terms.specs.declared.tree.TermTree.{TermTree}
 use Rattle.gv_terms.specs.declared.tree.TermTree.TheVariants as tree
 use Rattle.gv_terms.specs.declared.tree.TermTree.TheOpen.{TermTree-F, Variable, Apply}
 use Rattle.gv_terms.specs.declared.tree.TermTree.TheFolds.{map-TermTree, ind-TermTree}
 use Rattle.gv_terms.specs.declared.tree.TermTree.TheViews.{roll-TermTree}
-use Rattle.gv_terms.specs.Words as words
-use Rattle.gv_terms.specs.Words.{low_bytes, number_of, le64, un64, put64}
-use Rattle.gv_terms.specs.Maps.{entry_at, with_entry, without}
+use Rattle.gv_words.specs.Words as words
+use Rattle.gv_words.specs.Words.{low_bytes, number_of, le64, un64, put64}
+use Rattle.gv_words.specs.Maps.{entry_at, with_entry, without}
 use Rattle.gv_terms.specs.Sorts.{sort_given, takes, with_copies}
-use Rattle.gv_terms.specs.Values.{zero_of, has_sort, word_of, bytes_of, ref_of, slice_of}
-use Rattle.gv_terms.specs.Meaning.{operate, part, part_of, joined, too_long, length_of, item_at, with_item, items_between, both_lists, all_zero, held_at, holds_at, map_with, map_without}
+use Rattle.gv_base.specs.declared.slice_val.SliceVal.{SliceVal}
+use Rattle.gv_terms.specs.Values.{nil_slice, zero_of, has_sort, word_of, bytes_of, ref_of, slice_of}
+use Rattle.gv_terms.specs.Meaning.{operate, part, part_of, joined, too_long, length_of, item_at, with_item, items_between, both_lists, all_zero, held_at, holds_at, map_with, map_without, slice_between}
 use Rattle.gv_terms.specs.Trees.{sort_of, all_sorts, value_under}
-use Rattle.gv_terms.specs.Ranges.{references, IsList, AreBytes, IsMap, IsInRange, is_word_if_number, numbers_are_words}
+use Rattle.gv_terms.specs.Ranges.{references, IsList, AreBytes, IsMap, IsSlice, IsInRange, is_word_if_number, numbers_are_words}
+use Rattle.gv_terms.specs.declared.stored.Stored.{Stored}
+use Rattle.gv_terms.specs.Store.{tree_at, trees_of, AreSound}
+use Rattle.gv_terms.specs.Evaluation.{some_node}
 use Rattle.gv_terms.specs.Laws.{ValuesInRange}
 use Rattle.gv_terms.proofs.NodeSorts.{sort_apply}
+use Rattle.gv_terms.proofs.Numbers.{numbers_apply}
 use Rattle.gv_terms.proofs.Valued.{value_variable, value_apply}
 use Rattle.gv_terms.proofs.WordBytes.{number_below}
 use Rattle.gv_terms.proofs.ValueSorts.{left, right, first_and_rest, each_sorted}
@@ -113,6 +118,11 @@ put64_in x a is = pick (nat_lt (length x) 8) refl
     pick false e =
         (omega (arith, is.0, ltb-false (length x) 8 e, length-append (low_bytes 8 a) (drop 8 x), low_length 8 a, length-drop 8 x), All-append (λ b. b < 256) (le64 a) (drop 8 x) (low_in 8 a) (All-drop (λ b. b < 256) 8 x is.1))
 
+-- Slices.
+
+no_slice : IsSlice nil_slice
+no_slice = (lit< tt, lit< tt, omega arith)
+
 -- Values.
 
 part_in_range : (vs : List Value) (i : ℕ) → All IsInRange vs → IsInRange (part vs i)
@@ -130,9 +140,26 @@ ref_below : (v : Value) → IsInRange v → ref_of v < references
 ref_below (val.Ref r) is = is
 ref_below _ is = lit< tt
 
-slice_below : (v : Value) → IsInRange v → (slice_of v).length < words.words
-slice_below (val.SliceS s) is = is.2
-slice_below _ is = lit< tt
+slice_in : (v : Value) → IsInRange v → IsSlice (slice_of v)
+slice_in (val.SliceS s) is = is
+slice_in _ is = no_slice
+
+length_below : (s : SliceVal) → IsSlice s → s.length < words.words
+length_below s is = omega (arith, is.1, is.2)
+
+capacity_below : (s : SliceVal) → IsSlice s → s.capacity < words.words
+capacity_below s is = omega (arith, is.1)
+
+between_in : (s : SliceVal) (a b : ℕ) → IsSlice s → IsSlice (slice_between s a b)
+between_in s a b is = pick (nat_le a b) (nat_le b s.capacity) refl refl
+  where
+    pick : (p q : Bool) → nat_le a b ≡ p → nat_le b s.capacity ≡ q → IsSlice (cond (p && q) (record { object = s.object; offset = words.plus s.offset a; length = b - a; capacity = s.capacity - a }) nil_slice)
+    pick true true e f =
+        let low = leb-true a b e in
+        let high = leb-true b s.capacity f in
+        (is.0, omega (arith, low, high, is.1), omega (arith, high))
+    pick true false e f = no_slice
+    pick false q e f = no_slice
 
 length_in : (v : Value) → IsInRange v → IsInRange (length_of v)
 length_in (val.Bytes x) is = omega (arith, is.0)
@@ -239,7 +266,7 @@ module _ (ss : List Sort) (vs : List Value) (r : Sort) (all : All IsInRange vs) 
   operate_in op.True f e = tt
   operate_in op.False f e = tt
   operate_in op.Nil f e = lit< tt
-  operate_in op.NilSlice f e = (lit< tt, lit< tt, lit< tt)
+  operate_in op.NilSlice f e = no_slice
   operate_in op.NoCall f e = lit< tt
   operate_in op.MapWW f e = All-nil _
   operate_in op.MapWB f e = All-nil _
@@ -281,7 +308,9 @@ module _ (ss : List Sort) (vs : List Value) (r : Sort) (all : All IsInRange vs) 
   operate_in op.Has f e = holds_at_in (part vs 0) _
   operate_in op.Put f e = map_with_in (part vs 0) _ (part vs 2) (at_word 1) (here 0) (here 2)
   operate_in op.Del f e = map_without_in (part vs 0) _ (here 0)
-  operate_in op.SLen f e = slice_below (part vs 0) (here 0)
+  operate_in op.SLen f e = length_below (slice_of (part vs 0)) (slice_in (part vs 0) (here 0))
+  operate_in op.Sl f e = between_in (slice_of (part vs 0)) _ _ (slice_in (part vs 0) (here 0))
+  operate_in op.SCap f e = capacity_below (slice_of (part vs 0)) (slice_in (part vs 0) (here 0))
 
 -- Variables.
 
@@ -295,7 +324,7 @@ zero_in sort.Blocks = nothing AreBytes
 zero_in sort.MapWW = All-nil _
 zero_in sort.MapWB = All-nil _
 zero_in sort.Ref = lit< tt
-zero_in sort.SliceS = (lit< tt, lit< tt, lit< tt)
+zero_in sort.SliceS = no_slice
 zero_in sort.Call = lit< tt
 zero_in sort.Name = nothing (λ b. b < 256)
 
@@ -309,10 +338,6 @@ found_in (b ∷ bs) n s all = pick (bytes_eq b.name n && has_sort b.value s) (fo
     pick false is = is
 
 -- Trees.
-
-numbers_apply : (o : Operator) (ts : List TermTree) → numbers_are_words (tree.Apply o ts) ≡ (is_word_if_number o && list_all (λ b. b) (map numbers_are_words ts))
-unfolding numbers_are_words
-numbers_apply o ts = search (rules, the_lemmas)
 
 module _ (env : Env) (all : All (λ b. IsInRange b.value) env.bindings) where
   abbrev HasRange : TermTree → Type 0
@@ -350,3 +375,9 @@ module _ (env : Env) (all : All (λ b. IsInRange b.value) env.bindings) where
 
 pub values_in_range : ValuesInRange
 values_in_range env t s all = tree_in_range env all t s
+
+-- the value of a store's term
+pub term_range : (env : Env) (ns : List Stored) (i : ℕ) → AreSound ns → i < length ns → All (λ b. IsInRange b.value) env.bindings → IsInRange (value_under env (tree_at (trees_of ns) i))
+term_range env ns i sound lt all =
+    let node = sound i some_node lt in
+    values_in_range env (tree_at (trees_of ns) i) (get_or ns i some_node).sort all node.sort node.words

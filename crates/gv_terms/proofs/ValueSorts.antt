@@ -281,6 +281,8 @@ operate_sort op.Del ss vs r have e =
     let on = on_map vs ss (λ s entry. takes (s ∷ sort.Word ∷ []) s ss) r have e in
     map_without_sort (part vs 0) _ on.entry on.entries ∙ on.first ∙ taken (on.map ∷ sort.Word ∷ []) ss on.map r on.given
 operate_sort op.SLen ss vs r have e = taken (sort.SliceS ∷ []) ss sort.Word r e
+operate_sort op.Sl ss vs r have e = taken (sort.SliceS ∷ sort.Word ∷ sort.Word ∷ []) ss sort.SliceS r e
+operate_sort op.SCap ss vs r have e = taken (sort.SliceS ∷ []) ss sort.Word r e
 
 -- Variables.
 

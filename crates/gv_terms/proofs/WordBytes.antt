@@ -2,7 +2,7 @@
 use Rattle.std.proofs.Common.{ℕ, zero, suc, ◌-◌, ◌^◌, ◌<◌, ◌≤◌, List, [], ◌∷◌, length, take, drop, get_or, subst, sym, arith, lit<}
 use Rattle.std.proofs.Math.Nat.{pow-suc}
 use Rattle.std.proofs.lemmas.List.{take_rest}
-use Rattle.gv_terms.specs.Words.{number_of}
+use Rattle.gv_words.specs.Words.{number_of}
 
 positive : (n : ℕ) → 0 < 256 ^ n
 positive zero = lit< tt

@@ -15,4 +15,5 @@ ValuesHaveSorts = (env : Env) (t : TermTree) (s : Sort) → sort_of t ≡ Some s
 -- the value of a tree that has a sort, and in which each number is a word, is in range, under every
 -- valuation whose values are
 abbrev pub ValuesInRange : Type 0
-ValuesInRange = (env : Env) (t : TermTree) (s : Sort) → All (λ b. IsInRange b.value) env.bindings → sort_of t ≡ Some s → numbers_are_words t ≡ true → IsInRange (value_under env t)
+ValuesInRange = (env : Env) (t : TermTree) (s : Sort) → All (λ b. IsInRange b.value) env.bindings → sort_of t ≡ Some s → numbers_are_words t ≡ true
+    → IsInRange (value_under env t)

@@ -1,16 +1,17 @@
 -- The value of an operator over values. Where a value has another sort than the operator wants,
 -- it is read as the zero, and an operator on lists or maps gives `Unit`; terms with a sort never come
 -- there, since the value of each of their parts has the part's sort (`ValuesHaveSorts` of `Laws`).
-use Rattle.std.specs.Prelude.{ℕ, ◌+◌, ◌%◌, ◌^◌, List, [], ◌++◌, Bool, true, false, not, ◌&&◌, ◌||◌, nat_eq, nat_lt, nat_le, if◌then◌else◌, length, take, drop, replicate, slice_set, slice_index_or, is_some, bit_and, bit_or, bit_xor}
+use Rattle.std.specs.Prelude.{ℕ, ◌+◌, ◌-◌, ◌%◌, ◌^◌, List, [], ◌++◌, Bool, true, false, not, ◌&&◌, ◌||◌, nat_eq, nat_lt, nat_le, if◌then◌else◌, length, take, drop, replicate, slice_set, slice_index_or, is_some, bit_and, bit_or, bit_xor}
 use Rattle.std.specs.Str.{bytes_eq}
 use Rattle.std.specs.List.{list_all}
 use Rattle.std.specs.Option.{unwrap_or}
+use Rattle.gv_base.specs.declared.slice_val.SliceVal.{SliceVal}
 use Rattle.gv_terms.specs.declared.value.Value.{Value}
 use Rattle.gv_terms.specs.declared.value.Value.TheVariants as val
 use Rattle.gv_terms.specs.declared.operator.Operator.{Operator}
 use Rattle.gv_terms.specs.declared.operator.Operator.TheVariants as op
-use Rattle.gv_terms.specs.Words as words
-use Rattle.gv_terms.specs.Maps.{entry_at, with_entry, without}
+use Rattle.gv_words.specs.Words as words
+use Rattle.gv_words.specs.Maps.{entry_at, with_entry, without}
 use Rattle.gv_terms.specs.Values.{nil_slice, value_eq, word_of, truth_of, bytes_of, ref_of, slice_of}
 
 -- Lists.
@@ -95,6 +96,15 @@ map_without (val.MapWW m) k = val.MapWW (without m k)
 map_without (val.MapWB m) k = val.MapWB (without m k)
 map_without _ k = val.Unit
 
+-- Slices.
+
+-- the slice of the cells from a to before b, which may be spare ones; its capacity ends where the old one ends
+abbrev pub slice_between : SliceVal → ℕ → ℕ → SliceVal
+slice_between s a b =
+    if nat_le a b && nat_le b s.capacity
+    then record { object = s.object; offset = words.plus s.offset a; length = b - a; capacity = s.capacity - a }
+    else nil_slice
+
 -- Operators.
 
 -- the part at a place
@@ -156,3 +166,5 @@ operate op.Has vs = holds_at (part vs 0) (word vs 1)
 operate op.Put vs = map_with (part vs 0) (word vs 1) (part vs 2)
 operate op.Del vs = map_without (part vs 0) (word vs 1)
 operate op.SLen vs = val.Word (slice_of (part vs 0)).length
+operate op.Sl vs = val.SliceS (slice_between (slice_of (part vs 0)) (word vs 1) (word vs 2))
+operate op.SCap vs = val.Word (slice_of (part vs 0)).capacity

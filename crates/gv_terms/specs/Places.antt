@@ -52,6 +52,8 @@ place_of op.Has = 43
 place_of op.Put = 44
 place_of op.Del = 45
 place_of op.SLen = 46
+place_of op.Sl = 47
+place_of op.SCap = 48
 
 -- the literal, and 0 where there is none
 abbrev pub literal_of : Operator → ℕ

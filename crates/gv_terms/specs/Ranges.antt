@@ -1,13 +1,16 @@
 -- Which values a machine can have: numbers of their widths, and lists that are not too long.
-use Rattle.std.specs.Prelude.{ℕ, ◌<◌, ◌^◌, List, length, Bool, true, ◌&&◌, nat_lt}
+use Rattle.std.specs.Prelude.{ℕ, ◌+◌, ◌<◌, ◌≤◌, ◌^◌, List, length, Bool, true, ◌&&◌, nat_lt}
 use Rattle.std.specs.List.{All, list_all}
+use Rattle.gv_base.specs.declared.slice_val.SliceVal.{SliceVal}
 use Rattle.gv_terms.specs.declared.operator.Operator.{Operator}
 use Rattle.gv_terms.specs.declared.operator.Operator.TheVariants as op
+use Rattle.gv_terms.specs.declared.tree.Head.{Head}
+use Rattle.gv_terms.specs.declared.tree.Head.TheVariants as head
 use Rattle.gv_terms.specs.declared.tree.TermTree.{TermTree, fold-TermTree}
 use Rattle.gv_terms.specs.declared.tree.TermTree.TheOpen.{TermTree-F, Variable, Apply}
 use Rattle.gv_terms.specs.declared.value.Value.{Value}
 use Rattle.gv_terms.specs.declared.value.Value.TheVariants as val
-use Rattle.gv_terms.specs.Words.{words}
+use Rattle.gv_words.specs.Words.{words}
 use Rattle.gv_terms.specs.Meaning.{too_long}
 
 -- how many references there are, and how many calls
@@ -25,6 +28,10 @@ AreBytes x = IsList (λ b. b < 256) x
 abbrev pub IsMap : {V : Type 0} → (V → Type 0) → List (ℕ × V) → Type 0
 IsMap P m = All (λ e. (e.0 < words) × P e.1) m
 
+-- the cells and the spare cells of a slice end below 2^63, and it has no more cells than its capacity
+abbrev pub IsSlice : SliceVal → Type 0
+IsSlice s = (s.object < references) × (s.offset + s.capacity < too_long) × (s.length ≤ s.capacity)
+
 -- a number fits its width, a list or a map holds what is in range; the value of no reply is in range too
 abbrev pub IsInRange : Value → Type 0
 IsInRange (val.Word n) = n < words
@@ -36,7 +43,7 @@ IsInRange (val.Blocks x) = IsList AreBytes x
 IsInRange (val.MapWW m) = IsMap (λ n. n < words) m
 IsInRange (val.MapWB m) = IsMap AreBytes m
 IsInRange (val.Ref r) = r < references
-IsInRange (val.SliceS s) = (s.object < references) × (s.offset < words) × (s.length < words)
+IsInRange (val.SliceS s) = IsSlice s
 IsInRange (val.Call c) = c < references
 IsInRange (val.Name n) = AreBytes n
 IsInRange val.Unit = Unit {0}
@@ -45,6 +52,11 @@ IsInRange val.Unit = Unit {0}
 abbrev pub is_word_if_number : Operator → Bool
 is_word_if_number (op.Number n) = nat_lt n words
 is_word_if_number _ = true
+
+-- the same of what stands at a root
+abbrev pub holds_word : Head → Bool
+holds_word (head.Variable n s) = true
+holds_word (head.Apply o) = is_word_if_number o
 
 abbrev pub words_here : TermTree-F Bool → Bool
 words_here (Variable n s) = true

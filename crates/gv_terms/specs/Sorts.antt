@@ -113,6 +113,8 @@ sort_given op.Has ss = with_map ss (λ s entry. takes (s ∷ Word ∷ []) Truth 
 sort_given op.Put ss = with_map ss (λ s entry. takes (s ∷ Word ∷ entry ∷ []) s ss)
 sort_given op.Del ss = with_map ss (λ s entry. takes (s ∷ Word ∷ []) s ss)
 sort_given op.SLen ss = takes (SliceS ∷ []) Word ss
+sort_given op.Sl ss = takes (SliceS ∷ Word ∷ Word ∷ []) SliceS ss
+sort_given op.SCap ss = takes (SliceS ∷ []) Word ss
 
 -- the operators whose first part is a list, and a map
 abbrev pub IsOnLists : Operator → Type 0
@@ -167,8 +169,10 @@ arity op.IsZero = 1
 arity op.Le64 = 1
 arity op.Un64 = 1
 arity op.SLen = 1
+arity op.SCap = 1
 arity op.If = 3
 arity op.Upd = 3
 arity op.Sub = 3
 arity op.Put = 3
+arity op.Sl = 3
 arity _ = 2

@@ -5,7 +5,7 @@ use Rattle.std.specs.Option.{unwrap_or}
 use Rattle.gv_terms.specs.declared.sort.Sort.{Sort}
 use Rattle.gv_terms.specs.declared.tree.Head.{Head}
 use Rattle.gv_terms.specs.declared.tree.Head.TheVariants as head
-use Rattle.gv_terms.specs.declared.tree.TermTree.{TermTree, fold-TermTree}
+use Rattle.gv_terms.specs.declared.tree.TermTree.{TermTree, fold-TermTree, out-TermTree}
 use Rattle.gv_terms.specs.declared.tree.TermTree.TheVariants as tree
 use Rattle.gv_terms.specs.declared.tree.TermTree.TheOpen.{TermTree-F, Variable, Apply}
 use Rattle.gv_terms.specs.declared.value.Value.{Value}
@@ -18,6 +18,21 @@ use Rattle.gv_terms.specs.Meaning.{operate}
 abbrev pub rooted : Head → List TermTree → TermTree
 rooted (head.Variable n s) ts = tree.Variable n s
 rooted (head.Apply o) ts = tree.Apply o ts
+
+-- what stands at the root of a tree, and the trees below it
+abbrev pub root_here : TermTree-F TermTree → Head
+root_here (Variable n s) = head.Variable n s
+root_here (Apply o parts) = head.Apply o
+
+abbrev pub root_of : TermTree → Head
+root_of t = root_here (out-TermTree t)
+
+abbrev pub branches_here : TermTree-F TermTree → List TermTree
+branches_here (Variable n s) = []
+branches_here (Apply o parts) = parts
+
+abbrev pub branches_of : TermTree → List TermTree
+branches_of t = branches_here (out-TermTree t)
 
 -- the sorts of all, where each has one
 abbrev pub all_sorts : List (Option Sort) → Option (List Sort)

@@ -11,7 +11,7 @@ use Rattle.gv_terms.specs.Sorts.{sort_eq}
 
 -- the slice of no object
 abbrev pub nil_slice : SliceVal
-nil_slice = record { object = 0; offset = 0; length = 0 }
+nil_slice = record { object = 0; offset = 0; length = 0; capacity = 0 }
 
 -- the zero of a sort; of names it is the empty one, which no term denotes
 abbrev pub zero_of : Sort → Value
@@ -51,13 +51,13 @@ is_sort s (Some r) = sort_eq r s
 abbrev pub has_sort : Value → Sort → Bool
 has_sort v s = is_sort s (sort_of_value v)
 
--- equality: of slices by all three numbers, of maps by their entries
+-- equality: of slices by all four numbers, of maps by their entries
 abbrev pub bool_eq : Bool → Bool → Bool
 bool_eq true b = b
 bool_eq false b = not b
 
 abbrev pub slice_eq : SliceVal → SliceVal → Bool
-slice_eq s t = nat_eq s.object t.object && nat_eq s.offset t.offset && nat_eq s.length t.length
+slice_eq s t = nat_eq s.object t.object && nat_eq s.offset t.offset && nat_eq s.length t.length && nat_eq s.capacity t.capacity
 
 abbrev pub entry_eq : {V : Type 0} → (V → V → Bool) → ℕ × V → ℕ × V → Bool
 entry_eq eq d e = nat_eq d.0 e.0 && eq d.1 e.1

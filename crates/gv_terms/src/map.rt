@@ -1,9 +1,9 @@
 //! Finite maps from words.
 
-ghost use Rattle.std.specs.Prelude.{◌≡◌, ◌↔◌, [], ◌∷◌, ◌++◌, IfOk, OnOk, IsTrue, nat_lt, nat_eq, not, is_some};
-ghost use Rattle.std.specs.List.{filter};
+ghost use Rattle.std.specs.Prelude.{◌≡◌, ◌↔◌, ◌<◌, [], true, length, slice_set, IfOk, IfErr, IsTrue};
 ghost use Rattle.std.specs.Option.{option_copied};
-ghost use Rattle.gv_terms.specs.Maps.{entry_at, with_entry, without};
+ghost use Rattle.gv_terms.specs.Entries.{FitsAt, HoldsAt};
+ghost use Rattle.gv_words.specs.Maps.{ascends, entry_at, with_entry, without};
 
 use crate::item::Item;
 use crate::items;
@@ -24,7 +24,7 @@ impl<V> Model for FiniteMap<V> {
     ghost Value = { Seq (ℕ × V) };
 
     ghost use Rattle.std.specs.Prelude.{◌≡◌, true};
-    ghost use Rattle.gv_terms.specs.Maps.{ascends};
+    ghost use Rattle.gv_words.specs.Maps.{ascends};
 
     ghost view = { λ m. m.entries.items };
 
@@ -48,14 +48,14 @@ impl<V> FiniteMap<V> {
         self.entries.as_slice()
     }
 
-    /// What the map holds under a key.
+    /// What the map holds under a key. It takes time by the logarithm of the number of entries.
     pub fn get(&self, key: u64) -> Option<&V>
         ensures { option_copied result ≡ entry_at self.now key }
     {
-        self.entries
-            .iter()
-            .find(|entry| entry.0 == key)
-            .map(|entry| &entry.1)
+        match find(self.entries.as_slice(), key) {
+            Ok(place) => Some(&self.entries[place].1),
+            Err(_) => None,
+        }
     }
 }
 
@@ -75,74 +75,69 @@ impl<V: Item> FiniteMap<V> {
         items::same_items(self.entries.as_slice(), other.entries.as_slice())
     }
 
-    /// The map with an item under a key.
-    pub fn with(&self, alloc: Global, key: u64, item: V) -> Result<FiniteMap<V>, NoMemory>
-        ensures { IfOk result (λ m. m ≡ with_entry self.now key item) }
+    /// The map with an item under a key. No entry is copied: it takes time by the logarithm of the number
+    /// of entries, and moves those above the key by one where the key is new.
+    pub fn with(self, key: u64, item: V) -> Result<FiniteMap<V>, NoMemory>
+        ensures { IfOk result (λ m. m ≡ with_entry self key item) }
     {
-        let mut entries = Vec::new(alloc);
-        push_below(alloc, &mut entries, self.entries.as_slice(), key)?;
-        entries.push((key, item))?;
-        push_above(alloc, &mut entries, self.entries.as_slice(), key)?;
-        Ok(FiniteMap { entries })
+        let FiniteMap { mut entries } = self;
+        match find(entries.as_slice(), key) {
+            Ok(place) => {
+                let entries = replaced(entries, place, (key, item));
+                Ok(FiniteMap { entries })
+            }
+            Err(place) => {
+                entries.insert(place, (key, item))?;
+                Ok(FiniteMap { entries })
+            }
+        }
     }
 
-    /// The map without a key.
-    pub fn without(&self, alloc: Global, key: u64) -> Result<FiniteMap<V>, NoMemory>
-        ensures { IfOk result (λ m. m ≡ without self.now key) }
+    /// The map without a key. No entry is copied: it takes time by the logarithm of the number of entries,
+    /// and moves those above the key by one where there is one under it.
+    pub fn without(self, key: u64) -> FiniteMap<V>
+        ensures { result ≡ without self key }
     {
-        let mut entries = Vec::new(alloc);
-        push_others(alloc, &mut entries, self.entries.as_slice(), key)?;
-        Ok(FiniteMap { entries })
+        let FiniteMap { mut entries } = self;
+        match find(entries.as_slice(), key) {
+            Ok(place) => {
+                let _ = entries.remove(place);
+                FiniteMap { entries }
+            }
+            Err(_) => FiniteMap { entries },
+        }
     }
 }
 
-// Copies of the entries whose keys are below.
-fn push_below<V: Item>(
-    alloc: Global,
-    out: &mut Vec<(u64, V)>,
-    entries: &[(u64, V)],
-    key: u64,
-) -> Result<(), NoMemory>
-    ensures { OnOk result (out.new.items ≡ out.old.items ++ filter (λ e. nat_lt e.0 key) entries.now) }
+// The entries with another at a place.
+fn replaced<V: Item>(entries: Vec<(u64, V)>, place: usize, entry: (u64, V)) -> Vec<(u64, V)>
+    requires { place < length entries.items }
+    ensures { result.items ≡ slice_set entries.items place entry }
 {
-    for entry in entries {
-        if entry.0 < key {
-            out.push(entry.copy(alloc)?)?;
-        }
-    }
-    Ok(())
+    let mut entries = entries;
+    entries[place] = entry;
+    entries
 }
 
-// Copies of the entries whose keys are above.
-fn push_above<V: Item>(
-    alloc: Global,
-    out: &mut Vec<(u64, V)>,
-    entries: &[(u64, V)],
-    key: u64,
-) -> Result<(), NoMemory>
-    ensures { OnOk result (out.new.items ≡ out.old.items ++ filter (λ e. nat_lt key e.0) entries.now) }
+// The place of the entry with a key, or where one with it would fit in.
+fn find<V>(entries: &[(u64, V)], key: u64) -> Result<usize, usize>
+    requires { ascends entries.now ≡ true }
+    ensures found { IfOk result (λ i. HoldsAt entries.now key i) }
+    ensures absent { IfErr result (λ i. FitsAt entries.now key i) }
 {
-    for entry in entries {
-        if key < entry.0 {
-            out.push(entry.copy(alloc)?)?;
+    let mut low = 0;
+    let mut high = entries.len();
+    while low < high {
+        let middle = low + (high - low) / 2;
+        let here = entries[middle].0;
+        if here == key {
+            return Ok(middle);
+        }
+        if here < key {
+            low = middle + 1;
+        } else {
+            high = middle;
         }
     }
-    Ok(())
-}
-
-// Copies of the entries with other keys.
-fn push_others<V: Item>(
-    alloc: Global,
-    out: &mut Vec<(u64, V)>,
-    entries: &[(u64, V)],
-    key: u64,
-) -> Result<(), NoMemory>
-    ensures { OnOk result (out.new.items ≡ out.old.items ++ without entries.now key) }
-{
-    for entry in entries {
-        if entry.0 != key {
-            out.push(entry.copy(alloc)?)?;
-        }
-    }
-    Ok(())
+    Err(low)
 }

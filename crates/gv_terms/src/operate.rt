@@ -4,13 +4,13 @@ ghost use Rattle.std.specs.Prelude.{◌≡◌, ◌%◌, [], ◌∷◌, IfOk, rep
 ghost use Rattle.gv_terms.specs.Sorts.{arity, IsOnWords};
 ghost use Rattle.gv_terms.specs.declared.value.Value.TheVariants as val;
 ghost use Rattle.gv_terms.specs.Values.{word_of, bytes_of};
-ghost use Rattle.gv_terms.specs.Meaning.{operate};
+ghost use Rattle.gv_terms.specs.Meaning.{operate, slice_between};
 
 use crate::map::FiniteMap;
 use crate::operator::Operator;
 use crate::value::{NIL_SLICE, Value};
 use crate::{items, words};
-use gv_base::{List, Name, NoMemory};
+use gv_base::{List, Name, NoMemory, SliceVal};
 use std::alloc::Global;
 
 impl Operator {
@@ -57,6 +57,7 @@ impl Operator {
             Operator::Le64 => Ok(Value::Bytes(Name::from_slice(alloc, &words::le64(a.word()))?)),
             Operator::Un64 => Ok(Value::Word(words::un64(a.bytes()))),
             Operator::SLen => Ok(Value::Word(a.slice().length)),
+            Operator::SCap => Ok(Value::Word(a.slice().capacity)),
             _ => Ok(Value::Unit),
         }
     }
@@ -82,7 +83,7 @@ impl Operator {
             }
             Operator::Get => a.held_at(alloc, b.word()),
             Operator::Has => Ok(a.holds_at(b.word())),
-            Operator::Del => a.map_without(alloc, b.word()),
+            Operator::Del => Ok(a.copy(alloc)?.map_without(b.word())),
             Operator::Plus
             | Operator::Minus
             | Operator::BitOr
@@ -140,9 +141,26 @@ impl Operator {
             }
             Operator::Upd => a.with_item(alloc, b.word(), c),
             Operator::Sub => a.items_between(alloc, b.word(), c.word()),
-            Operator::Put => a.map_with(alloc, b.word(), c),
+            Operator::Put => a.copy(alloc)?.map_with(alloc, b.word(), c),
+            Operator::Sl => Ok(Value::SliceS(slice_between(a.slice(), b.word(), c.word()))),
             _ => Ok(Value::Unit),
         }
+    }
+}
+
+// The slice of the cells from one to before another, or that of no object where there are no such cells.
+fn slice_between(s: SliceVal, from: u64, to: u64) -> SliceVal
+    ensures { result ≡ slice_between s from to }
+{
+    if from <= to && to <= s.capacity {
+        SliceVal {
+            object: s.object,
+            offset: s.offset.wrapping_add(from),
+            length: to - from,
+            capacity: s.capacity - from,
+        }
+    } else {
+        NIL_SLICE
     }
 }
 

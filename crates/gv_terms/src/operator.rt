@@ -1,10 +1,11 @@
 //! The operators of terms.
 
-ghost use Rattle.std.specs.Prelude.{◌≡◌, ◌↔◌, IsTrue};
+ghost use Rattle.std.specs.Prelude.{◌≡◌, ◌↔◌, IsTrue, true};
 ghost use Rattle.gv_terms.specs.Places.{place_of, literal_of};
+ghost use Rattle.gv_terms.specs.Ranges.{is_word_if_number};
 
 /// An operator with its literal, where it has one. This project's own.
-#[derive(Clone, Copy, Debug)]
+#[derive(Clone, Copy, Debug, PartialEq, Eq)]
 pub enum Operator {
     /// A number.
     Number(u64),
@@ -98,6 +99,10 @@ pub enum Operator {
     Del,
     /// `slen(s)`
     SLen,
+    /// `sl(s, a, b)`
+    Sl,
+    /// `scap(s)`
+    SCap,
 }
 
 impl Operator {
@@ -107,6 +112,16 @@ impl Operator {
         ensures { IsTrue result ↔ (self ≡ other) }
     {
         self.place() == other.place() && self.literal() == other.literal()
+    }
+
+    /// Says that the number, where the operator is one, is a word.
+    pub fn holds_a_word(self)
+        ensures { is_word_if_number self ≡ true }
+    {
+        match self {
+            Operator::Number(_n) => (),
+            _ => (),
+        }
     }
 
     // The literal, and 0 where there is none.
@@ -175,6 +190,8 @@ impl Operator {
             Operator::Put => 44,
             Operator::Del => 45,
             Operator::SLen => 46,
+            Operator::Sl => 47,
+            Operator::SCap => 48,
         }
     }
 }

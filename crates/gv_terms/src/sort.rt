@@ -20,7 +20,7 @@ pub enum Sort {
     MapWB,
     /// A reference; 0 is nil.
     Ref,
-    /// A slice: object, offset and length.
+    /// A slice: object, offset, length and capacity.
     SliceS,
     /// The number of a call; 0 is none.
     Call,

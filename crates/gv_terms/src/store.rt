@@ -1,17 +1,16 @@
 //! The store that makes terms.
 
-ghost use Rattle.std.specs.Prelude.{◌≡◌, ◌↔◌, ◌<◌, [], length, Some, None, IsTrue, IsSome, IfOk, IfErr, map};
-ghost use Rattle.gv_terms.specs.Trees.{sort_of, sort_of_node};
+ghost use Rattle.std.specs.List.{All};
+ghost use Rattle.std.specs.Prelude.{◌≡◌, ◌↔◌, ◌<◌, [], true, length, Some, None, IsTrue, IsSome, IfOk, IfErr, map};
+ghost use Rattle.gv_terms.specs.Ranges.{numbers_are_words};
+ghost use Rattle.gv_terms.specs.Trees.{branches_of, root_of, sort_of, sort_of_node};
 ghost use Rattle.gv_terms.specs.declared.term.MakeFault.TheVariants as fault;
-ghost use Rattle.gv_terms.specs.Typed.{is_closed};
 ghost use Rattle.gv_terms.specs.Store.{tree_at, trees_at, node_tree, AreIn, Grows, IsSoundAt, AreSound, trees_of};
 
 use crate::sort::Sort;
-use crate::spec::Var;
 use crate::stored::Stored;
 use crate::term::{MakeFault, Node, Term};
 use crate::tree::{Head, TermTree};
-use crate::typing::is_among;
 use gv_base::{List, NoMemory, Steps};
 use std::alloc::Global;
 use std::marker::Model;
@@ -66,8 +65,8 @@ impl TermStore {
         self.nodes.len()
     }
 
-    /// What the store keeps, in the order in which it was made.
-    pub fn nodes(&self) -> &[Stored]
+    // What the store keeps, in the order in which it was made.
+    pub(crate) fn nodes(&self) -> &[Stored]
         ensures trees { trees_of result.now ≡ self.now }
         ensures sound { AreSound result.now }
     {
@@ -80,6 +79,30 @@ impl TermStore {
         ensures { sort_of (tree_at self.now t.id) ≡ Some result }
     {
         self.node(t).sort
+    }
+
+    /// What stands at the root of a term.
+    pub fn head_of(&self, t: Term) -> &Head
+        requires { t.id < length self.now }
+        ensures { result.now ≡ root_of (tree_at self.now t.id) }
+    {
+        &self.node(t).head
+    }
+
+    /// The parts of a term, in order. Each was made before it.
+    pub fn parts_of(&self, t: Term) -> &[Term]
+        requires { t.id < length self.now }
+        ensures trees { trees_at self.now result.now ≡ branches_of (tree_at self.now t.id) }
+        ensures earlier { All (λ p. p.id < t.id) result.now }
+    {
+        self.node(t).parts.as_slice()
+    }
+
+    /// Says that each number in a term of the store is a word.
+    pub fn numbers_are_words(&self)
+        ensures { All (λ t. numbers_are_words t ≡ true) self.now }
+    {
+        let _nodes = &self.nodes;
     }
 
     // The sorts of several terms.
@@ -100,6 +123,7 @@ impl TermStore {
         ensures within { IfOk result (λ t. t.id < length self.new) }
         ensures made { IfOk result (λ t. tree_at self.new t.id ≡ node_tree self.old node.now) }
         ensures sorted { IfOk result (λ t. IsSome (sort_of_node node.now.head (trees_at self.old node.now.parts))) }
+        ensures words { IfOk result (λ t. numbers_are_words (tree_at self.new t.id) ≡ true) }
         ensures cause { IfErr result (λ e. e ≡ fault.WrongSort → sort_of_node node.now.head (trees_at self.old node.now.parts) ≡ None) }
         ensures grows { Grows self.old self.new }
     {
@@ -107,6 +131,7 @@ impl TermStore {
         let Some(sort) = node.head.sort_given(sorts.as_slice()) else {
             return Err(MakeFault::WrongSort);
         };
+        node.head.holds_a_word();
         let stored = Stored {
             head: node.head.copy(alloc)?,
             parts: List::from_vec(Vec::from_slice(alloc, node.parts.as_slice())?),
@@ -163,25 +188,6 @@ impl TermStore {
                 }
                 for i in 0..these.len() {
                     if !self.same(these[i], those[i], steps) {
-                        return false;
-                    }
-                }
-                true
-            }
-        }
-    }
-
-    /// Whether all variables of a term are among these.
-    pub fn is_closed(&self, vars: &[Var], t: Term) -> bool
-        requires { t.id < length self.now }
-        ensures { result ≡ is_closed vars.now (tree_at self.now t.id) }
-    {
-        let node = self.node(t);
-        match &node.head {
-            Head::Variable { name, sort } => is_among(vars, name.as_slice(), *sort),
-            Head::Apply(_) => {
-                for part in node.parts.as_slice() {
-                    if !self.is_closed(vars, *part) {
                         return false;
                     }
                 }

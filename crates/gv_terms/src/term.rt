@@ -15,14 +15,14 @@ pub struct Term {
 }
 
 /// A head over terms of one store. This project's own.
-#[derive(Debug, Drop)]
+#[derive(Debug, PartialEq, Eq, Drop)]
 pub struct Node {
     pub head: Head,
     pub parts: List<Term>,
 }
 
 /// Why a node makes no term.
-#[derive(Debug, Drop, Error)]
+#[derive(Debug, PartialEq, Eq, Drop, Error)]
 pub enum MakeFault {
     #[error("out of memory")]
     NoMemory,

@@ -1,7 +1,8 @@
 //! Terms as trees.
 
-ghost use Rattle.std.specs.Prelude.{◌≡◌, ◌↔◌, IfOk, IsTrue};
+ghost use Rattle.std.specs.Prelude.{◌≡◌, ◌↔◌, IfOk, IsTrue, true};
 ghost use Rattle.gv_terms.specs.declared.tree.Head.TheVariants as head;
+ghost use Rattle.gv_terms.specs.Ranges.{holds_word};
 ghost use Rattle.gv_terms.specs.Trees.{head_sort};
 
 use crate::item::Item;
@@ -11,7 +12,7 @@ use gv_base::{List, Name, NoMemory};
 use std::alloc::Global;
 
 /// What stands at the root of a term: a variable with its sort, or an operator. This project's own.
-#[derive(Debug, Drop)]
+#[derive(Debug, PartialEq, Eq, Drop)]
 pub enum Head {
     Variable { name: Name, sort: Sort },
     Apply(Operator),
@@ -38,6 +39,16 @@ impl Head {
         match self {
             Head::Variable { name, sort } => other.is_variable(name, *sort),
             Head::Apply(operator) => other.is_apply(*operator),
+        }
+    }
+
+    /// Says that the number, where the head is one, is a word.
+    pub fn holds_a_word(&self)
+        ensures { holds_word self.now ≡ true }
+    {
+        match self {
+            Head::Variable { .. } => (),
+            Head::Apply(operator) => operator.holds_a_word(),
         }
     }
 
@@ -75,14 +86,14 @@ impl Head {
 
 /// A term as a tree: a variable with its sort, or an operator over its parts in order.
 /// This project's own.
-#[derive(Drop)]
+#[derive(Debug, PartialEq, Eq, Drop)]
 pub enum TermTree {
     Variable { name: Name, sort: Sort },
     Apply(Operator, List<TermTree>),
 }
 
 /// A term as it was read, whose variables have no sort yet. This project's own.
-#[derive(Drop)]
+#[derive(Debug, PartialEq, Eq, Drop)]
 pub enum RawTerm {
     Variable(Name),
     Apply(Operator, List<RawTerm>),

@@ -1,17 +1,17 @@
 //! The value of a term under a valuation.
 
-ghost use Rattle.std.specs.Prelude.{◌≡◌, ◌<◌, ◌≤◌, ◌&&◌, length, slice_index_or, IfOk};
+ghost use Rattle.std.specs.Prelude.{◌≡◌, ◌<◌, ◌&&◌, length, IfOk, OnOk};
 ghost use Rattle.std.specs.List.{All, find};
 ghost use Rattle.std.specs.Option.{option_copied, option_map};
 ghost use Rattle.std.specs.Str.{bytes_eq};
 ghost use Rattle.gv_terms.specs.Values.{has_sort, sort_of_value};
-ghost use Rattle.gv_terms.specs.Sorts.{arity};
-ghost use Rattle.gv_terms.specs.Meaning.{operate};
+ghost use Rattle.gv_terms.specs.Ranges.{IsInRange};
 ghost use Rattle.gv_terms.specs.Trees.{looked_up, head_value, sort_of, value_under};
-ghost use Rattle.gv_terms.specs.Store.{tree_at, trees_of, values_at, AreSound, AreClosedFrom, AreValues, HasParts, IsMarked};
+ghost use Rattle.gv_terms.specs.Store.{tree_at, trees_of, part_count, AreSound};
+ghost use Rattle.gv_terms.specs.Evaluation.{held_all, AreHeld, Loses};
 
-use crate::marks;
-use crate::operator::Operator;
+use crate::live::{Live, keep, operated};
+use crate::plan::steps;
 use crate::sort::Sort;
 use crate::store::TermStore;
 use crate::stored::Stored;
@@ -20,75 +20,53 @@ use crate::tree::Head;
 use crate::value::{Binding, Env, Value};
 use gv_base::{Name, NoMemory};
 use std::alloc::Global;
+use std::collections::BTreeMap;
 
 /// The value of a term: of a variable the first value of the valuation that has its name and sort,
-/// or the zero of the sort where there is none. It has the term's sort.
+/// or the zero of the sort where there is none. It has the term's sort, and is in range where the values of
+/// the valuation are. It takes the time of the operators of the nodes that the term stands on, each node
+/// once, and keeps a value until its last use; nothing recurses.
 pub fn eval(alloc: Global, store: &TermStore, t: Term, env: &Env) -> Result<Value, NoMemory>
     requires { t.id < length store.now }
     ensures value { IfOk result (λ v. v ≡ value_under env.now (tree_at store.now t.id)) }
     ensures sort { IfOk result (λ v. sort_of_value v ≡ sort_of (tree_at store.now t.id)) }
+    ensures range { IfOk result (λ v. All (λ b. IsInRange b.value) env.now.bindings → IsInRange v) }
 {
-    value_of_last(alloc, store.nodes(), t.id as usize, env)
+    value_of(alloc, store.nodes(), t.id, env)
 }
 
-// The value of the node at a place.
-fn value_of_last(alloc: Global, nodes: &[Stored], last: usize, env: &Env) -> Result<Value, NoMemory>
-    requires within { last < length nodes.now }
+// The value of the node with a number.
+fn value_of(alloc: Global, nodes: &[Stored], root: u64, env: &Env) -> Result<Value, NoMemory>
+    requires within { root < length nodes.now }
     requires sound { AreSound nodes.now }
-    ensures { IfOk result (λ v. v ≡ value_under env.now (tree_at (trees_of nodes.now) last)) }
+    ensures { IfOk result (λ v. v ≡ value_under env.now (tree_at (trees_of nodes.now) root)) }
 {
-    let marks = marks::needed(alloc, nodes, last)?;
-    let mut values = Vec::new(alloc);
-    for i in 0..last {
-        let value = if marks[i] {
-            value_of_node(alloc, &nodes[i], values.as_slice(), env)?
-        } else {
-            Value::Unit
-        };
-        values.push(value)?;
+    let mut steps = steps(alloc, nodes, root)?;
+    let mut live = BTreeMap::new(alloc);
+    while let Some(step) = steps.pop() {
+        let node = &nodes[step.node as usize];
+        let value = value_of_node(alloc, &mut live, node, step.node, env)?;
+        keep(&mut live, step.node, value, step.last)?;
     }
-    value_of_node(alloc, &nodes[last], values.as_slice(), env)
+    value_of_node(alloc, &mut live, &nodes[root as usize], root, env)
 }
 
-// The value of a node over the values of its parts.
+// The value of a node over those of its parts, which are given up where it reads them last.
 fn value_of_node(
     alloc: Global,
+    live: &mut Live,
     node: &Stored,
-    values: &[Value],
+    number: u64,
     env: &Env,
 ) -> Result<Value, NoMemory>
-    requires within { All (λ p. p.id < length values.now) node.now.parts }
-    requires counted { HasParts node.now.head node.now.parts }
-    ensures { IfOk result (λ v. v ≡ head_value env.now node.now.head (values_at values.now node.now.parts)) }
+    requires there { AreHeld live.old node.now.parts }
+    requires counted { length node.now.parts ≡ part_count node.now.head }
+    ensures value { IfOk result (λ v. v ≡ head_value env.now node.now.head (held_all live.old node.now.parts)) }
+    ensures loses { OnOk result (Loses number live.old live.new) }
 {
     match &node.head {
         Head::Variable { name, sort } => env.get(alloc, name, *sort),
-        Head::Apply(operator) => value_over(alloc, *operator, node.parts.as_slice(), values),
-    }
-}
-
-// The value of an operator over the values of its parts.
-fn value_over(
-    alloc: Global,
-    operator: Operator,
-    parts: &[Term],
-    values: &[Value],
-) -> Result<Value, NoMemory>
-    requires within { All (λ p. p.id < length values.now) parts.now }
-    requires counted { length parts.now ≡ arity operator }
-    ensures { IfOk result (λ v. v ≡ operate operator (values_at values.now parts.now)) }
-{
-    match parts {
-        [] => Ok(operator.constant(alloc)),
-        [a] => operator.over_one(alloc, &values[a.id as usize]),
-        [a, b] => operator.over_two(alloc, &values[a.id as usize], &values[b.id as usize]),
-        [a, b, c] => operator.over_three(
-            alloc,
-            &values[a.id as usize],
-            &values[b.id as usize],
-            &values[c.id as usize],
-        ),
-        _ => Ok(Value::Unit),
+        Head::Apply(operator) => { operated(alloc, live, *operator, node.parts.as_slice(), number) }
     }
 }
 

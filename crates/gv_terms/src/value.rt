@@ -158,7 +158,10 @@ impl Value {
     {
         match self {
             Value::SliceS(t) => {
-                s.object == t.object && s.offset == t.offset && s.length == t.length
+                s.object == t.object
+                    && s.offset == t.offset
+                    && s.length == t.length
+                    && s.capacity == t.capacity
             }
             _ => false,
         }
@@ -269,6 +272,7 @@ pub const NIL_SLICE: SliceVal = SliceVal {
     object: 0,
     offset: 0,
     length: 0,
+    capacity: 0,
 };
 
 /// An equal list.

@@ -1,7 +1,7 @@
 //! Arithmetic on words, and words as bytes.
 
 ghost use Rattle.std.specs.Prelude.{◌≡◌, ◌≤◌, ◌^◌, ◌<◌, length, IfOk};
-ghost use Rattle.gv_terms.specs.Words.{shifted_left, shifted_right, quotient, remainder, complement, fits, le64, un64, put64, number_of};
+ghost use Rattle.gv_words.specs.Words.{shifted_left, shifted_right, quotient, remainder, complement, fits, le64, un64, put64, number_of};
 
 use gv_base::NoMemory;
 use std::alloc::Global;
@@ -49,7 +49,7 @@ pub fn fits(a: u64, b: u64) -> bool
 }
 
 /// The word's 8 bytes, the lowest first.
-#[tactic(auto, unfolding(crate::specs::Words::le64))]
+#[tactic(auto, unfolding(gv_words::specs::Words::le64))]
 pub fn le64(a: u64) -> [u8; 8]
     ensures { result ≡ le64 a }
 {
@@ -84,7 +84,7 @@ fn number_of(bytes: &[u8]) -> u64
 }
 
 /// The number of the first 8 bytes, of which absent ones are 0.
-#[tactic(auto, unfolding(crate::specs::Words::un64))]
+#[tactic(auto, unfolding(gv_words::specs::Words::un64))]
 pub fn un64(bytes: &[u8]) -> u64
     ensures { result ≡ un64 bytes.now }
 {

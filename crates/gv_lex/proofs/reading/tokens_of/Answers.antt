@@ -1,7 +1,7 @@
 use Rattle.std.proofs.Common.{◌-◌, append-nil, take, drop, length, subst, arith}
 use Rattle.std.proofs.lemmas.List.{take_rest}
-use Rattle.gv_tokens.specs.Judging.{HasTokens}
-use Rattle.gv_tokens.proofs.Cuts.{all_read}
+use Rattle.gv_text.specs.Judging.{HasTokens}
+use Rattle.gv_text.proofs.Cuts.{all_read}
 use Rattle.gv_lex.specs.Layout.{laid}
 use Rattle.gv_lex.specs.Reading.{own}
 use Rattle.gv_lex.proofs.OwnPieces.{own_turned}

@@ -1,5 +1,5 @@
 use Rattle.std.proofs.Common.{◌-◌, length}
-use Rattle.gv_tokens.proofs.Cuts.{HasReadTo}
+use Rattle.gv_text.proofs.Cuts.{HasReadTo}
 use Rattle.gv_lex.specs.Layout.{laid}
 use Rattle.gv_lex.specs.Reading.{own}
 use Rattle.gv_lex.proofs.reading.tokens_of.Given as goal

@@ -1,5 +1,5 @@
 use Rattle.std.proofs.Common.{◌-◌}
-use Rattle.gv_linear.proofs.CheckLemmas.{IsSummedTo}
+use Rattle.gv_linear.specs.Answer.{IsSummedTo}
 use Rattle.gv_linear.proofs.check.sums_tell.Given as goal
 
 abbrev pub invariant-loop-column : goal.invariant-loop-column

@@ -1,0 +1,10 @@
+use Rattle.std.proofs.Common.{◌≡◌, IfOk, subst, arith}
+use Rattle.gv_terms.specs.Meaning.{operate}
+use Rattle.gv_terms.proofs.Living.{one_held}
+use Rattle.gv_terms.proofs.live.over.Goals as goal
+
+pub returns-in-len1-clause-value : goal.returns-in-len1-clause-value
+returns-in-len1-clause-value c =
+    subst (λ l. IfOk c.over_one.result (λ v. v ≡ operate c.args.operator l))
+    (one_held c.args.live.now c.args.parts.now _ c.value_of.result.now (omega (arith, c.in-len1.len_at_least, c.in-len1.len_below)) c.value_of.ensures)
+    c.over_one.ensures

@@ -1,5 +1,0 @@
-use Rattle.gv_terms.specs.Store.{AreIn}
-use Rattle.gv_terms.proofs.tests.variables.Given as goal
-
-abbrev pub invariant-loop-i : goal.invariant-loop-i
-invariant-loop-i l = AreIn l.store l.terms.items
