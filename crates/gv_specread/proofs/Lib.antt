@@ -1,14 +1,6 @@
 pub mod SpecPredictive
+pub mod SpecContains
 pub mod Forward
 pub mod Backward
 pub mod Top
-pub mod Refusing
-pub mod TermPredictive
-pub mod ForwardTerms
-pub mod BackwardTerms
-pub mod TopTerms
-pub mod ScopeLookups
-pub mod ResolvedTrees
-pub mod TermFaults
-pub mod TermParts
-pub mod WholeTerms
+pub mod Decided

@@ -4,7 +4,3 @@ pub mod SpecActs
 pub mod Language
 pub mod Seen
 pub mod Reading
-pub mod TermTable
-pub mod TermActs
-pub mod Scopes
-pub mod Resolving

@@ -1,181 +1,188 @@
 -- What each act makes of the parts, the top one first. Made by tools/grammar.py from spec.grammar: edit that.
-use Rattle.std.specs.Prelude.{ℕ, List, [], ◌∷◌, ◌++◌, Some, None}
-use Rattle.gv_grammar.specs.Building.{Reduction}
-use Rattle.gv_specread.specs.declared.spec_acts.Part.{Part}
-use Rattle.gv_specread.specs.declared.spec_acts.Part.TheVariants.{Token as PToken, Term as PTerm, Disks as PDisks, Leased as PLeased, Fields as PFields, Params as PParams, Returns as PReturns, Allowed as PAllowed, Assigns as PAssigns, Reply as PReply, Body as PBody, Ops as POps, Spec as PSpec}
-use Rattle.gv_specread.specs.declared.spec_acts.TheConstants.{KIND_TOKEN, KIND_TERM, KIND_DISKS, KIND_LEASED, KIND_FIELDS, KIND_PARAMS, KIND_RETURNS, KIND_ALLOWED, KIND_ASSIGNS, KIND_REPLY, KIND_BODY, KIND_OPS, KIND_SPEC}
-use Rattle.std.specs.Prelude.{true, false}
+use Rattle.std.specs.Prelude.{Bool, true, false, List, [], ◌∷◌, ℕ, ◌++◌, Some, None, Option}
+use Rattle.gv_grammar.specs.declared.steps.Step.{Step}
+use Rattle.gv_grammar.specs.Building.{Reduction, act_of, run}
+use Rattle.gv_termread.specs.declared.generated.term_acts.Part.{Part}
+use Rattle.gv_termread.specs.declared.generated.term_acts.Part.TheVariants.{Token as PToken, Term as PTerm, Other as POther}
+use Rattle.gv_termread.specs.TermActs.{is_token, is_term, term_acts}
+use Rattle.gv_specread.specs.declared.generated.spec_acts.SpecPart.{SpecPart}
+use Rattle.gv_specread.specs.declared.generated.spec_acts.SpecPart.TheVariants.{Disks as PDisks, Leased as PLeased, Fields as PFields, Params as PParams, Returns as PReturns, Allowed as PAllowed, Picks as PPicks, Assigns as PAssigns, Reply as PReply, Body as PBody, Ops as POps, Spec as PSpec}
 use Rattle.gv_specread.specs.declared.tree.DisksTree.TheVariants.{Zero, One, Two}
-use Rattle.gv_specread.specs.Trees.{span_of, sort_of, number_of, number, constant, variable, in_parens, maker, apply, unary, binary}
+use Rattle.gv_specread.specs.Trees.{span_of, sort_of, number_of}
+use Rattle.gv_termread.specs.declared.token.SeenToken.{SeenToken}
 
-abbrev pub kind_of : Part → ℕ
-kind_of (PToken of) = KIND_TOKEN
-kind_of (PTerm of) = KIND_TERM
-kind_of (PDisks of) = KIND_DISKS
-kind_of (PLeased of) = KIND_LEASED
-kind_of (PFields of) = KIND_FIELDS
-kind_of (PParams of) = KIND_PARAMS
-kind_of (PReturns of) = KIND_RETURNS
-kind_of (PAllowed of) = KIND_ALLOWED
-kind_of (PAssigns of) = KIND_ASSIGNS
-kind_of (PReply of) = KIND_REPLY
-kind_of (PBody of) = KIND_BODY
-kind_of (POps of) = KIND_OPS
-kind_of (PSpec of) = KIND_SPEC
+abbrev pub is_disks : (Part SpecPart) → Bool
+is_disks (POther (PDisks of)) = true
+is_disks part = false
 
-abbrev pub made_spec : List Part → List Part
-made_spec (PBody crash ∷ PToken _ ∷ POps ops ∷ PFields fields ∷ PToken _ ∷ PDisks disks ∷ PToken word ∷ PToken _ ∷ PToken name ∷ PToken _ ∷ parts) = PSpec (record { name = span_of name; disks_start = word.start; disks = disks; fields = fields; ops = ops; crash = crash }) ∷ parts
+abbrev pub is_leased : (Part SpecPart) → Bool
+is_leased (POther (PLeased of)) = true
+is_leased part = false
+
+abbrev pub is_fields : (Part SpecPart) → Bool
+is_fields (POther (PFields of)) = true
+is_fields part = false
+
+abbrev pub is_params : (Part SpecPart) → Bool
+is_params (POther (PParams of)) = true
+is_params part = false
+
+abbrev pub is_returns : (Part SpecPart) → Bool
+is_returns (POther (PReturns of)) = true
+is_returns part = false
+
+abbrev pub is_allowed : (Part SpecPart) → Bool
+is_allowed (POther (PAllowed of)) = true
+is_allowed part = false
+
+abbrev pub is_picks : (Part SpecPart) → Bool
+is_picks (POther (PPicks of)) = true
+is_picks part = false
+
+abbrev pub is_assigns : (Part SpecPart) → Bool
+is_assigns (POther (PAssigns of)) = true
+is_assigns part = false
+
+abbrev pub is_reply : (Part SpecPart) → Bool
+is_reply (POther (PReply of)) = true
+is_reply part = false
+
+abbrev pub is_body : (Part SpecPart) → Bool
+is_body (POther (PBody of)) = true
+is_body part = false
+
+abbrev pub is_ops : (Part SpecPart) → Bool
+is_ops (POther (POps of)) = true
+is_ops part = false
+
+abbrev pub is_spec : (Part SpecPart) → Bool
+is_spec (POther (PSpec of)) = true
+is_spec part = false
+
+abbrev pub made_spec : List (Part SpecPart) → List (Part SpecPart)
+made_spec (POther (PBody crash) ∷ PToken _ ∷ POther (POps ops) ∷ POther (PFields fields) ∷ PToken _ ∷ POther (PDisks disks) ∷ PToken word ∷ PToken _ ∷ PToken name ∷ PToken _ ∷ parts) = POther (PSpec (record { name = span_of name; disks_start = word.start; disks = disks; fields = fields; ops = ops; crash = crash })) ∷ parts
 made_spec parts = parts
 
-abbrev pub made_no_disks : List Part → List Part
-made_no_disks (PToken _ ∷ parts) = PDisks (Zero) ∷ parts
+abbrev pub made_no_disks : List (Part SpecPart) → List (Part SpecPart)
+made_no_disks (PToken _ ∷ parts) = POther (PDisks (Zero)) ∷ parts
 made_no_disks parts = parts
 
-abbrev pub made_one_disk : List Part → List Part
-made_one_disk (PToken blocks ∷ PToken _ ∷ parts) = PDisks (One (number_of blocks)) ∷ parts
+abbrev pub made_one_disk : List (Part SpecPart) → List (Part SpecPart)
+made_one_disk (PToken blocks ∷ PToken _ ∷ parts) = POther (PDisks (One (number_of blocks))) ∷ parts
 made_one_disk parts = parts
 
-abbrev pub made_two_disks : List Part → List Part
-made_two_disks (PToken blocks ∷ PToken _ ∷ parts) = PDisks (Two (number_of blocks)) ∷ parts
+abbrev pub made_two_disks : List (Part SpecPart) → List (Part SpecPart)
+made_two_disks (PToken blocks ∷ PToken _ ∷ parts) = POther (PDisks (Two (number_of blocks))) ∷ parts
 made_two_disks parts = parts
 
-abbrev pub made_no_fields : List Part → List Part
-made_no_fields parts = PFields ([]) ∷ parts
+abbrev pub made_no_fields : List (Part SpecPart) → List (Part SpecPart)
+made_no_fields parts = POther (PFields ([])) ∷ parts
 
-abbrev pub made_field : List Part → List Part
-made_field (PToken _ ∷ PTerm first ∷ PToken _ ∷ PLeased leased ∷ PToken sort ∷ PToken _ ∷ PToken name ∷ PToken _ ∷ PFields fields ∷ parts) = PFields (fields ++ (record { name = span_of name; sort = sort_of sort; leased = leased; first = first }) ∷ []) ∷ parts
+abbrev pub made_field : List (Part SpecPart) → List (Part SpecPart)
+made_field (PToken _ ∷ PTerm first ∷ PToken _ ∷ POther (PLeased leased) ∷ PToken sort ∷ PToken _ ∷ PToken name ∷ PToken _ ∷ POther (PFields fields) ∷ parts) = POther (PFields (fields ++ (record { name = span_of name; sort = sort_of sort; leased = leased; first = first }) ∷ [])) ∷ parts
 made_field parts = parts
 
-abbrev pub made_not_leased : List Part → List Part
-made_not_leased parts = PLeased (false) ∷ parts
+abbrev pub made_not_leased : List (Part SpecPart) → List (Part SpecPart)
+made_not_leased parts = POther (PLeased (false)) ∷ parts
 
-abbrev pub made_leased : List Part → List Part
-made_leased (PToken _ ∷ parts) = PLeased (true) ∷ parts
+abbrev pub made_leased : List (Part SpecPart) → List (Part SpecPart)
+made_leased (PToken _ ∷ parts) = POther (PLeased (true)) ∷ parts
 made_leased parts = parts
 
-abbrev pub made_no_ops : List Part → List Part
-made_no_ops parts = POps ([]) ∷ parts
+abbrev pub made_no_ops : List (Part SpecPart) → List (Part SpecPart)
+made_no_ops parts = POther (POps ([])) ∷ parts
 
-abbrev pub made_op : List Part → List Part
-made_op (PBody body ∷ PAllowed allowed ∷ PReturns returns ∷ PToken _ ∷ PParams params ∷ PToken _ ∷ PToken name ∷ PToken _ ∷ POps ops ∷ parts) = POps (ops ++ (record { name = span_of name; params = params; returns = returns; allowed = allowed; body = body }) ∷ []) ∷ parts
+abbrev pub made_op : List (Part SpecPart) → List (Part SpecPart)
+made_op (POther (PBody body) ∷ POther (PAllowed allowed) ∷ POther (PReturns returns) ∷ PToken _ ∷ POther (PParams params) ∷ PToken _ ∷ PToken name ∷ PToken _ ∷ POther (POps ops) ∷ parts) = POther (POps (ops ++ (record { name = span_of name; params = params; returns = returns; allowed = allowed; body = body }) ∷ [])) ∷ parts
 made_op parts = parts
 
-abbrev pub made_no_params : List Part → List Part
-made_no_params parts = PParams ([]) ∷ parts
+abbrev pub made_no_params : List (Part SpecPart) → List (Part SpecPart)
+made_no_params parts = POther (PParams ([])) ∷ parts
 
-abbrev pub made_param : List Part → List Part
-made_param (PToken sort ∷ PToken _ ∷ PToken name ∷ PParams params ∷ parts) = PParams (params ++ (record { name = span_of name; sort = sort_of sort }) ∷ []) ∷ parts
+abbrev pub made_param : List (Part SpecPart) → List (Part SpecPart)
+made_param (PToken sort ∷ PToken _ ∷ PToken name ∷ POther (PParams params) ∷ parts) = POther (PParams (params ++ (record { name = span_of name; sort = sort_of sort }) ∷ [])) ∷ parts
 made_param parts = parts
 
-abbrev pub made_next_param : List Part → List Part
-made_next_param (PToken sort ∷ PToken _ ∷ PToken name ∷ PToken _ ∷ PParams params ∷ parts) = PParams (params ++ (record { name = span_of name; sort = sort_of sort }) ∷ []) ∷ parts
+abbrev pub made_next_param : List (Part SpecPart) → List (Part SpecPart)
+made_next_param (PToken sort ∷ PToken _ ∷ PToken name ∷ PToken _ ∷ POther (PParams params) ∷ parts) = POther (PParams (params ++ (record { name = span_of name; sort = sort_of sort }) ∷ [])) ∷ parts
 made_next_param parts = parts
 
-abbrev pub made_no_return : List Part → List Part
-made_no_return parts = PReturns (None) ∷ parts
+abbrev pub made_no_return : List (Part SpecPart) → List (Part SpecPart)
+made_no_return parts = POther (PReturns (None)) ∷ parts
 
-abbrev pub made_return : List Part → List Part
-made_return (PToken sort ∷ PToken _ ∷ parts) = PReturns (Some (sort_of sort)) ∷ parts
+abbrev pub made_return : List (Part SpecPart) → List (Part SpecPart)
+made_return (PToken sort ∷ PToken _ ∷ parts) = POther (PReturns (Some (sort_of sort))) ∷ parts
 made_return parts = parts
 
-abbrev pub made_all_allowed : List Part → List Part
-made_all_allowed parts = PAllowed (None) ∷ parts
+abbrev pub made_all_allowed : List (Part SpecPart) → List (Part SpecPart)
+made_all_allowed parts = POther (PAllowed (None)) ∷ parts
 
-abbrev pub made_allowed : List Part → List Part
-made_allowed (PTerm term ∷ PToken _ ∷ parts) = PAllowed (Some term) ∷ parts
+abbrev pub made_allowed : List (Part SpecPart) → List (Part SpecPart)
+made_allowed (PTerm term ∷ PToken _ ∷ parts) = POther (PAllowed (Some term)) ∷ parts
 made_allowed parts = parts
 
-abbrev pub made_body : List Part → List Part
-made_body (PToken _ ∷ PReply reply ∷ PAssigns assigns ∷ PToken brace ∷ parts) = PBody (record { start = brace.start; assigns = assigns; reply = reply }) ∷ parts
+abbrev pub made_body : List (Part SpecPart) → List (Part SpecPart)
+made_body (PToken _ ∷ POther (PReply reply) ∷ POther (PAssigns assigns) ∷ POther (PPicks picks) ∷ PToken brace ∷ parts) = POther (PBody (record { start = brace.start; picks = picks; assigns = assigns; reply = reply })) ∷ parts
 made_body parts = parts
 
-abbrev pub made_no_assigns : List Part → List Part
-made_no_assigns parts = PAssigns ([]) ∷ parts
+abbrev pub made_no_picks : List (Part SpecPart) → List (Part SpecPart)
+made_no_picks parts = POther (PPicks ([])) ∷ parts
 
-abbrev pub made_assign : List Part → List Part
-made_assign (PToken _ ∷ PTerm term ∷ PToken _ ∷ PToken name ∷ PAssigns assigns ∷ parts) = PAssigns (assigns ++ (record { name = span_of name; term = term }) ∷ []) ∷ parts
+abbrev pub made_pick : List (Part SpecPart) → List (Part SpecPart)
+made_pick (PToken _ ∷ PTerm bound ∷ PToken _ ∷ PToken name ∷ PToken _ ∷ POther (PPicks picks) ∷ parts) = POther (PPicks (picks ++ (record { name = span_of name; bound = bound }) ∷ [])) ∷ parts
+made_pick parts = parts
+
+abbrev pub made_no_assigns : List (Part SpecPart) → List (Part SpecPart)
+made_no_assigns parts = POther (PAssigns ([])) ∷ parts
+
+abbrev pub made_first_assign : List (Part SpecPart) → List (Part SpecPart)
+made_first_assign (PToken _ ∷ PTerm term ∷ PToken _ ∷ PToken name ∷ parts) = POther (PAssigns ((record { name = span_of name; term = term }) ∷ [])) ∷ parts
+made_first_assign parts = parts
+
+abbrev pub made_assign : List (Part SpecPart) → List (Part SpecPart)
+made_assign (PToken _ ∷ PTerm term ∷ PToken _ ∷ PToken name ∷ POther (PAssigns assigns) ∷ parts) = POther (PAssigns (assigns ++ (record { name = span_of name; term = term }) ∷ [])) ∷ parts
 made_assign parts = parts
 
-abbrev pub made_no_reply : List Part → List Part
-made_no_reply parts = PReply (None) ∷ parts
+abbrev pub made_no_reply : List (Part SpecPart) → List (Part SpecPart)
+made_no_reply parts = POther (PReply (None)) ∷ parts
 
-abbrev pub made_reply : List Part → List Part
-made_reply (PToken _ ∷ PTerm term ∷ PToken word ∷ parts) = PReply (Some (record { start = word.start; term = term })) ∷ parts
+abbrev pub made_reply : List (Part SpecPart) → List (Part SpecPart)
+made_reply (PToken _ ∷ PTerm term ∷ PToken word ∷ parts) = POther (PReply (Some (record { start = word.start; term = term }))) ∷ parts
 made_reply parts = parts
 
-abbrev pub made_binary : List Part → List Part
-made_binary (PTerm right ∷ PToken sign ∷ PTerm left ∷ parts) = PTerm (binary sign left right) ∷ parts
-made_binary parts = parts
-
-abbrev pub made_unary : List Part → List Part
-made_unary (PTerm inner ∷ PToken sign ∷ parts) = PTerm (unary sign inner) ∷ parts
-made_unary parts = parts
-
-abbrev pub made_number : List Part → List Part
-made_number (PToken token ∷ parts) = PTerm (number token) ∷ parts
-made_number parts = parts
-
-abbrev pub made_constant : List Part → List Part
-made_constant (PToken word ∷ parts) = PTerm (constant word) ∷ parts
-made_constant parts = parts
-
-abbrev pub made_variable : List Part → List Part
-made_variable (PToken name ∷ parts) = PTerm (variable name) ∷ parts
-made_variable parts = parts
-
-abbrev pub made_paren : List Part → List Part
-made_paren (PToken _ ∷ PTerm inner ∷ PToken brace ∷ parts) = PTerm (in_parens brace inner) ∷ parts
-made_paren parts = parts
-
-abbrev pub made_maker : List Part → List Part
-made_maker (PToken _ ∷ PTerm item ∷ PToken _ ∷ PToken count ∷ PToken _ ∷ PToken name ∷ parts) = PTerm (maker name count item) ∷ parts
-made_maker parts = parts
-
-abbrev pub made_of_one : List Part → List Part
-made_of_one (PToken _ ∷ PTerm a ∷ PToken _ ∷ PToken name ∷ parts) = PTerm (apply name (a.node ∷ [])) ∷ parts
-made_of_one parts = parts
-
-abbrev pub made_of_two : List Part → List Part
-made_of_two (PToken _ ∷ PTerm b ∷ PToken _ ∷ PTerm a ∷ PToken _ ∷ PToken name ∷ parts) = PTerm (apply name (a.node ∷ b.node ∷ [])) ∷ parts
-made_of_two parts = parts
-
-abbrev pub made_of_three : List Part → List Part
-made_of_three (PToken _ ∷ PTerm c ∷ PToken _ ∷ PTerm b ∷ PToken _ ∷ PTerm a ∷ PToken _ ∷ PToken name ∷ parts) = PTerm (apply name (a.node ∷ b.node ∷ c.node ∷ [])) ∷ parts
-made_of_three parts = parts
-
--- the acts, from the first number behind the marks on
-abbrev pub acts : List (Reduction Part)
-acts =
-    record { takes = KIND_BODY ∷ KIND_TOKEN ∷ KIND_OPS ∷ KIND_FIELDS ∷ KIND_TOKEN ∷ KIND_DISKS ∷ KIND_TOKEN ∷ KIND_TOKEN ∷ KIND_TOKEN ∷ KIND_TOKEN ∷ []; makes = made_spec }
-    ∷ record { takes = KIND_TOKEN ∷ []; makes = made_no_disks }
-    ∷ record { takes = KIND_TOKEN ∷ KIND_TOKEN ∷ []; makes = made_one_disk }
-    ∷ record { takes = KIND_TOKEN ∷ KIND_TOKEN ∷ []; makes = made_two_disks }
+-- its own acts, from the first number behind those that it includes on
+abbrev pub spec_own_acts : List ℕ → List (Reduction (Part SpecPart))
+spec_own_acts text =
+    record { takes = is_body ∷ is_token ∷ is_ops ∷ is_fields ∷ is_token ∷ is_disks ∷ is_token ∷ is_token ∷ is_token ∷ is_token ∷ []; makes = made_spec }
+    ∷ record { takes = is_token ∷ []; makes = made_no_disks }
+    ∷ record { takes = is_token ∷ is_token ∷ []; makes = made_one_disk }
+    ∷ record { takes = is_token ∷ is_token ∷ []; makes = made_two_disks }
     ∷ record { takes = []; makes = made_no_fields }
-    ∷ record { takes = KIND_TOKEN ∷ KIND_TERM ∷ KIND_TOKEN ∷ KIND_LEASED ∷ KIND_TOKEN ∷ KIND_TOKEN ∷ KIND_TOKEN ∷ KIND_TOKEN ∷ KIND_FIELDS ∷ []; makes = made_field }
+    ∷ record { takes = is_token ∷ is_term ∷ is_token ∷ is_leased ∷ is_token ∷ is_token ∷ is_token ∷ is_token ∷ is_fields ∷ []; makes = made_field }
     ∷ record { takes = []; makes = made_not_leased }
-    ∷ record { takes = KIND_TOKEN ∷ []; makes = made_leased }
+    ∷ record { takes = is_token ∷ []; makes = made_leased }
     ∷ record { takes = []; makes = made_no_ops }
-    ∷ record { takes = KIND_BODY ∷ KIND_ALLOWED ∷ KIND_RETURNS ∷ KIND_TOKEN ∷ KIND_PARAMS ∷ KIND_TOKEN ∷ KIND_TOKEN ∷ KIND_TOKEN ∷ KIND_OPS ∷ []; makes = made_op }
+    ∷ record { takes = is_body ∷ is_allowed ∷ is_returns ∷ is_token ∷ is_params ∷ is_token ∷ is_token ∷ is_token ∷ is_ops ∷ []; makes = made_op }
     ∷ record { takes = []; makes = made_no_params }
-    ∷ record { takes = KIND_TOKEN ∷ KIND_TOKEN ∷ KIND_TOKEN ∷ KIND_PARAMS ∷ []; makes = made_param }
-    ∷ record { takes = KIND_TOKEN ∷ KIND_TOKEN ∷ KIND_TOKEN ∷ KIND_TOKEN ∷ KIND_PARAMS ∷ []; makes = made_next_param }
+    ∷ record { takes = is_token ∷ is_token ∷ is_token ∷ is_params ∷ []; makes = made_param }
+    ∷ record { takes = is_token ∷ is_token ∷ is_token ∷ is_token ∷ is_params ∷ []; makes = made_next_param }
     ∷ record { takes = []; makes = made_no_return }
-    ∷ record { takes = KIND_TOKEN ∷ KIND_TOKEN ∷ []; makes = made_return }
+    ∷ record { takes = is_token ∷ is_token ∷ []; makes = made_return }
     ∷ record { takes = []; makes = made_all_allowed }
-    ∷ record { takes = KIND_TERM ∷ KIND_TOKEN ∷ []; makes = made_allowed }
-    ∷ record { takes = KIND_TOKEN ∷ KIND_REPLY ∷ KIND_ASSIGNS ∷ KIND_TOKEN ∷ []; makes = made_body }
+    ∷ record { takes = is_term ∷ is_token ∷ []; makes = made_allowed }
+    ∷ record { takes = is_token ∷ is_reply ∷ is_assigns ∷ is_picks ∷ is_token ∷ []; makes = made_body }
+    ∷ record { takes = []; makes = made_no_picks }
+    ∷ record { takes = is_token ∷ is_term ∷ is_token ∷ is_token ∷ is_token ∷ is_picks ∷ []; makes = made_pick }
     ∷ record { takes = []; makes = made_no_assigns }
-    ∷ record { takes = KIND_TOKEN ∷ KIND_TERM ∷ KIND_TOKEN ∷ KIND_TOKEN ∷ KIND_ASSIGNS ∷ []; makes = made_assign }
+    ∷ record { takes = is_token ∷ is_term ∷ is_token ∷ is_token ∷ []; makes = made_first_assign }
+    ∷ record { takes = is_token ∷ is_term ∷ is_token ∷ is_token ∷ is_assigns ∷ []; makes = made_assign }
     ∷ record { takes = []; makes = made_no_reply }
-    ∷ record { takes = KIND_TOKEN ∷ KIND_TERM ∷ KIND_TOKEN ∷ []; makes = made_reply }
-    ∷ record { takes = KIND_TERM ∷ KIND_TOKEN ∷ KIND_TERM ∷ []; makes = made_binary }
-    ∷ record { takes = KIND_TERM ∷ KIND_TOKEN ∷ []; makes = made_unary }
-    ∷ record { takes = KIND_TOKEN ∷ []; makes = made_number }
-    ∷ record { takes = KIND_TOKEN ∷ []; makes = made_constant }
-    ∷ record { takes = KIND_TOKEN ∷ []; makes = made_variable }
-    ∷ record { takes = KIND_TOKEN ∷ KIND_TERM ∷ KIND_TOKEN ∷ []; makes = made_paren }
-    ∷ record { takes = KIND_TOKEN ∷ KIND_TERM ∷ KIND_TOKEN ∷ KIND_TOKEN ∷ KIND_TOKEN ∷ KIND_TOKEN ∷ []; makes = made_maker }
-    ∷ record { takes = KIND_TOKEN ∷ KIND_TERM ∷ KIND_TOKEN ∷ KIND_TOKEN ∷ []; makes = made_of_one }
-    ∷ record { takes = KIND_TOKEN ∷ KIND_TERM ∷ KIND_TOKEN ∷ KIND_TERM ∷ KIND_TOKEN ∷ KIND_TOKEN ∷ []; makes = made_of_two }
-    ∷ record { takes = KIND_TOKEN ∷ KIND_TERM ∷ KIND_TOKEN ∷ KIND_TERM ∷ KIND_TOKEN ∷ KIND_TERM ∷ KIND_TOKEN ∷ KIND_TOKEN ∷ []; makes = made_of_three }
+    ∷ record { takes = is_token ∷ is_term ∷ is_token ∷ []; makes = made_reply }
     ∷ []
+
+abbrev pub spec_acts : List ℕ → List (Reduction (Part SpecPart))
+spec_acts text = (term_acts text) ++ (spec_own_acts text)
+
+-- the parts that steps leave of tokens
+abbrev pub spec_built : List ℕ → List Step → List SeenToken → Option (List (Part SpecPart))
+spec_built text steps tokens = run PToken (act_of (spec_acts text)) steps tokens []

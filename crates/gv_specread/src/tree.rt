@@ -1,8 +1,16 @@
-//! Specifications as they stand in a text. Places are numbers of bytes from the text's beginning on.
+//! Specifications as they stand in a text. Places are numbers of bytes from the text's beginning on: what a reader tells of a
+//! text is one fault, so it makes a line and a column of one of them, and no index of lines is made for the others.
 
-use crate::term::{PlacedTerm, Span};
 use gv_base::List;
+use gv_termread::PlacedTerm;
 use gv_terms::Sort;
+
+/// A name in a text: the bytes from `start` on that come before `end`.
+#[derive(Clone, Copy, Debug, PartialEq, Eq)]
+pub struct Span {
+    pub start: u32,
+    pub end: u32,
+}
 
 /// A sort, and where its word begins.
 #[derive(Clone, Copy, Debug, PartialEq, Eq)]
@@ -27,7 +35,7 @@ pub enum DisksTree {
 }
 
 /// `field NAME : SORT [leased] = FIRST ;`
-#[derive(Drop)]
+#[derive(Debug, PartialEq, Eq, Drop)]
 pub struct FieldTree {
     pub name: Span,
     pub sort: PlacedSort,
@@ -42,30 +50,38 @@ pub struct ParamTree {
     pub sort: PlacedSort,
 }
 
+/// `pick NAME below BOUND ;`
+#[derive(Debug, PartialEq, Eq, Drop)]
+pub struct PickTree {
+    pub name: Span,
+    pub bound: PlacedTerm,
+}
+
 /// `NAME := TERM ;`
-#[derive(Drop)]
+#[derive(Debug, PartialEq, Eq, Drop)]
 pub struct AssignTree {
     pub name: Span,
     pub term: PlacedTerm,
 }
 
 /// `reply TERM ;`, and where the word `reply` begins.
-#[derive(Drop)]
+#[derive(Debug, PartialEq, Eq, Drop)]
 pub struct ReplyTree {
     pub start: u32,
     pub term: PlacedTerm,
 }
 
-/// `{ ASSIGNMENTS [REPLY] }`, and where its brace begins.
-#[derive(Drop)]
+/// `{ PICKS ASSIGNMENTS [REPLY] }`, and where its brace begins.
+#[derive(Debug, PartialEq, Eq, Drop)]
 pub struct BodyTree {
     pub start: u32,
+    pub picks: List<PickTree>,
     pub assigns: List<AssignTree>,
     pub reply: Option<ReplyTree>,
 }
 
 /// `op NAME ( PARAMETERS ) [-> SORT] [where TERM] BODY`
-#[derive(Drop)]
+#[derive(Debug, PartialEq, Eq, Drop)]
 pub struct OpTree {
     pub name: Span,
     pub params: List<ParamTree>,
@@ -78,7 +94,7 @@ pub struct OpTree {
 ///
 /// Nothing is known yet of names, sorts and counts: a name may be declared twice or never, and any of the twelve words
 /// of sorts may stand where a sort does.
-#[derive(Drop)]
+#[derive(Debug, PartialEq, Eq, Drop)]
 pub struct SpecTree {
     pub name: Span,
     pub disks_start: u32,

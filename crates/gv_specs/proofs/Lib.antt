@@ -1,0 +1,11 @@
+pub mod Firsts
+pub mod Items
+pub mod ByPlace
+pub mod Sorted
+pub mod Scopes
+pub mod Typing
+pub mod Noted
+pub mod Growing
+pub mod Assigned
+pub mod Decided
+pub mod Alike

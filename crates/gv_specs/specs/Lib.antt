@@ -1,0 +1,9 @@
+pub mod Names
+pub mod Told
+pub mod Faults
+pub mod FieldTable
+pub mod Spelled
+pub mod Bodies
+pub mod Parts
+pub mod Reading
+pub mod Alike

@@ -1,0 +1,2 @@
+pub mod PlacedFaults
+pub mod WholeTerms
