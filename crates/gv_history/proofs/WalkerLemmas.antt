@@ -3,8 +3,8 @@ use Rattle.std.proofs.Common.{◌≡◌, ◌↔◌, ℕ, ◌<◌, ◌≤◌, Boo
 use Rattle.std.specs.Prelude.{slice_get, IsErrAnd}
 use Rattle.std.proofs.lemmas.Option.{slice_get_within}
 use Rattle.gv_terms.specs.declared.value.Value.{Value}
-use Rattle.gv_terms.specs.declared.spec.Op.{Op}
-use Rattle.gv_terms.specs.declared.spec.Spec.{Spec}
+use Rattle.gv_atomic.specs.declared.spec.Op.{Op}
+use Rattle.gv_atomic.specs.declared.spec.Spec.{Spec}
 use Rattle.gv_terms.specs.Values.{value_eq}
 use Rattle.gv_terms.proofs.Equality.{value_eq_decides}
 use Rattle.gv_spec.specs.declared.entry.Entry as held
@@ -13,12 +13,13 @@ use Rattle.gv_spec.specs.declared.explanation.Move as held_move_type
 use Rattle.gv_spec.specs.declared.explanation.Move.TheVariants as held_move
 use Rattle.gv_spec.specs.Atomic.{atomic_of, are_args, are_args_of}
 use Rattle.gv_spec.specs.Entry.{Entry, same_entry}
+use Rattle.gv_spec.specs.Move.{shown}
 use Rattle.gv_spec.specs.History.{entry_of, move_of, IsMoveOf}
-use Rattle.gv_spec.specs.Walks.{Standing, Called, Acted, Answered, WalkState, WalkCause, Order, WrongReply, entered, walk_answered, walk_moved}
-use Rattle.gv_spec.proofs.WalkLaws.{own_entry, entries_same, Walked, by_call, by_act, by_answer, by_crash, by_boot, moved_walked, entered_cases, undropped_called, called_same}
+use Rattle.gv_spec.specs.Walks.{Standing, Called, Acted, Answered, WalkState, WalkCause, Order, WrongReply, entered, walk_answered, walk_moved, in_order, moved_beside}
+use Rattle.gv_spec.proofs.WalkLaws.{own_entry, entries_same, Walked, by_call, by_act, by_answer, by_crash, by_boot, by_plain_boot, moved_walked, entered_cases, undropped_called, called_same}
 use Rattle.gv_history.specs.declared.fault.WalkFault.{WalkFault}
 use Rattle.gv_history.specs.Fault.{IsRefused, Follows}
-use Rattle.gv_history.specs.Beside.{in_order, moved_beside, HasOps}
+use Rattle.gv_history.specs.Walker.{HasOps}
 
 same_held : (a b : held.Entry) → entry_of a ≡ entry_of b → a ≡ b
 same_held (held_entry.Call n op args) (held_entry.Call m other values) h = cc
@@ -74,7 +75,7 @@ op_within s op args h = go (slice_get s.ops op) refl h
 
 -- the calls in the table stay of the specification's operations
 walked_ops : (s : Spec) (w u : WalkState (List Value) Value) (m : held_move_type.Move) → IsMoveOf s m → HasOps s w → Walked (atomic_of s) w u (move_of m) → HasOps s u
-walked_ops s w u (held_move.Act number) of ops (by_act k o a e t) n op args h = elim (entered_cases w.table k (Acted ((atomic_of s).applied o a w.fields).1) n) [
+walked_ops s w u (held_move.Act number choices) of ops (by_act k o a cs reply e f t) n op args h = elim (entered_cases w.table k (Acted reply) n) [
   | inl p ↦ absurd (let d = sym p.1 ∙ sym (ap (λ z. z n) t) ∙ h in cc)
   | inr p ↦ ops n op args (sym p ∙ sym (ap (λ z. z n) t) ∙ h)
 ]
@@ -87,19 +88,20 @@ walked_ops s w u (held_move.Other (held_entry.Answer number reply)) of ops (by_a
   | inr p ↦ ops n op args (sym p ∙ sym (ap (λ z. z n) t) ∙ h)
 ]
 walked_ops s w u (held_move.Other held_entry.Crash) of ops (by_crash t) n op args h = ops n op args (sym (ap (λ z. z n) t) ∙ h)
-walked_ops s w u (held_move.Other held_entry.Boot) of ops (by_boot t) n op args h = absurd (undropped_called (w.table n) op args (sym (ap (λ z. z n) t) ∙ h))
+walked_ops s w u (held_move.Boot choices) of ops (by_boot cs t) n op args h = absurd (undropped_called (w.table n) op args (sym (ap (λ z. z n) t) ∙ h))
+walked_ops s w u (held_move.Other held_entry.Boot) of ops (by_plain_boot t) n op args h = absurd (undropped_called (w.table n) op args (sym (ap (λ z. z n) t) ∙ h))
 
 pub moved_ops : (s : Spec) (w u : WalkState (List Value) Value) (left : List (Entry Value)) (m : held_move_type.Move) → IsMoveOf s m → HasOps s w → moved_beside (atomic_of s) w left (move_of m) ≡ Ok u → HasOps s u
-moved_ops s w u left m of ops e = go (in_order value_eq left (move_of m)) e
+moved_ops s w u left m of ops e = go (in_order value_eq left (shown (move_of m))) e
   where
     go : (b : Bool) → cond b (walk_moved (atomic_of s) w (move_of m)) (Err Order) ≡ Ok u → HasOps s u
     go true h = walked_ops s w u m of ops (moved_walked (atomic_of s) w u (move_of m) h)
     go false h = absurd cc
 
 -- the test of order at an entry
-pub in_order_at : (left : List held.Entry) (m : held_move_type.Move) (e next : held.Entry) → m ≡ held_move.Other e → 1 ≤ length left → next ≡ get_or left 0 next
-    → in_order value_eq (map entry_of left) (move_of m) ≡ same_entry value_eq (entry_of e) (entry_of next)
-in_order_at [] m e next is h at = absurd (omega (arith, h))
-in_order_at (x ∷ left) m e next is h at =
+pub in_order_at : (left : List held.Entry) (e next : held.Entry) → 1 ≤ length left → next ≡ get_or left 0 next
+    → in_order value_eq (map entry_of left) (Some (entry_of e)) ≡ same_entry value_eq (entry_of e) (entry_of next)
+in_order_at [] e next h at = absurd (omega (arith, h))
+in_order_at (x ∷ left) e next h at =
     let first : next ≡ x = at in
-    ap (λ k. in_order value_eq (entry_of x ∷ map entry_of left) (move_of k)) is ∙ ap (λ k. same_entry value_eq (entry_of e) (entry_of k)) (sym first)
+    ap (λ k. same_entry value_eq (entry_of e) (entry_of k)) (sym first)

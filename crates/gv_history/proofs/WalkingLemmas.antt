@@ -3,20 +3,19 @@ use Rattle.std.proofs.Common.{◌≡◌, ℕ, ◌+◌, ◌<◌, ◌≤◌, List,
 use Rattle.std.specs.Prelude.{IfErr, IsErrAnd}
 use Rattle.std.proofs.Math.ListN.{drop_of_length-le}
 use Rattle.gv_terms.specs.declared.value.Value.{Value}
-use Rattle.gv_terms.specs.declared.spec.Spec.{Spec}
+use Rattle.gv_atomic.specs.declared.spec.Spec.{Spec}
 use Rattle.gv_spec.specs.declared.entry.Entry as held_entry
 use Rattle.gv_spec.specs.declared.explanation.Move as held_move
 use Rattle.gv_spec.specs.Entry.{Entry}
-use Rattle.gv_spec.specs.Move.{Move}
+use Rattle.gv_spec.specs.Move.{Move, shown}
 use Rattle.gv_spec.specs.Atomic.{atomic_of}
 use Rattle.gv_spec.specs.History.{entry_of, move_of, walked}
 use Rattle.gv_spec.specs.Specification.{Specification}
-use Rattle.gv_spec.specs.Walks.{WalkState, WalkCause, WalkFault, Missing, Explains, walk, walk_beside}
+use Rattle.gv_spec.specs.Walks.{WalkState, WalkCause, WalkFault, Missing, Explains, left_after, moved_beside, walk, walk_beside}
 use Rattle.gv_spec.proofs.WalkLaws.{walk_tells}
 use Rattle.gv_history.specs.declared.fault.WalkFault as held_fault
 use Rattle.gv_history.specs.declared.fault.WalkFault.TheVariants as fault
 use Rattle.gv_history.specs.Fault.{cause_of, IsFaultOf, IsRefused, IsUnexplained}
-use Rattle.gv_history.specs.Beside.{moved_beside, left_after}
 use Rattle.gv_history.proofs.BesideLemmas.{after_move, at_refusal}
 
 drop_at : {A : Type 0} (xs : List A) (i : ℕ) (x : A) → i < length xs → x ≡ get_or xs i x → drop i xs ≡ x ∷ drop (i + 1) xs
@@ -40,7 +39,7 @@ module _ (s : Spec) (i : ℕ) (w : WalkState (List Value) Value) (left : List he
 
   -- a move that isn't refused
   pub turn : (u : WalkState (List Value) Value) (m : held_move.Move) (rest : List held_entry.Entry) → i < length items → m ≡ get_or items i m
-      → map entry_of rest ≡ left_after (map entry_of left) (move_of m) → moved_beside (atomic_of s) w (map entry_of left) (move_of m) ≡ Ok u
+      → map entry_of rest ≡ left_after (map entry_of left) (shown (move_of m)) → moved_beside (atomic_of s) w (map entry_of left) (move_of m) ≡ Ok u
       → walk_beside (atomic_of s) (i + 1 + 1) u (map entry_of rest) (map move_of (drop (i + 1) items)) ≡ all
   turn u m rest h e after moved =
       let next = after_move (atomic_of s) (i + 1) w u (map entry_of left) (move_of m) (map move_of (drop (i + 1) items)) all (at_move m h e) moved in

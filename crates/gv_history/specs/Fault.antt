@@ -1,14 +1,14 @@
 -- Faults as the program tells them, as those of the definitions.
-use Rattle.std.specs.Prelude.{◌≡◌, ℕ, List, Result, Ok, Err}
+use Rattle.std.specs.Prelude.{◌≡◌, ℕ, List, Result, Ok, Err, codes}
 use Rattle.gv_history.specs.declared.fault.WalkCause as held_cause
 use Rattle.gv_history.specs.declared.fault.WalkCause.TheVariants as told
 use Rattle.gv_history.specs.declared.fault.WalkFault as held_fault
 use Rattle.gv_history.specs.declared.fault.WalkFault.TheVariants as fault
-use Rattle.gv_terms.specs.declared.spec.Spec.{Spec}
+use Rattle.gv_atomic.specs.declared.spec.Spec.{Spec}
 use Rattle.gv_spec.specs.declared.entry.Entry as held_entry
 use Rattle.gv_spec.specs.declared.explanation.Move as held_move
 use Rattle.gv_spec.specs.History.{IsExplanation}
-use Rattle.gv_spec.specs.Walks.{WalkState, WalkCause, WalkFault, Repeated, NotCalled, ActedAlready, NotActed, WrongReply, Order, Missing}
+use Rattle.gv_spec.specs.Walks.{WalkState, WalkCause, WalkFault, Repeated, NotCalled, ActedAlready, NotActed, WrongReply, Order, Missing, BadChoice}
 
 abbrev pub cause_of : held_cause.WalkCause → WalkCause
 cause_of told.Repeated = Repeated
@@ -18,6 +18,18 @@ cause_of told.NotActed = NotActed
 cause_of told.WrongReply = WrongReply
 cause_of told.Order = Order
 cause_of told.Missing = Missing
+cause_of told.BadChoice = BadChoice
+
+-- the name, as a report writes it
+abbrev pub cause_name : held_cause.WalkCause → List ℕ
+cause_name told.Repeated = codes "Repeated"
+cause_name told.NotCalled = codes "NotCalled"
+cause_name told.ActedAlready = codes "ActedAlready"
+cause_name told.NotActed = codes "NotActed"
+cause_name told.WrongReply = codes "WrongReply"
+cause_name told.Order = codes "Order"
+cause_name told.Missing = codes "Missing"
+cause_name told.BadChoice = codes "BadChoice"
 
 -- the fields where a walk ended, or its fault
 abbrev pub fields_at_end : {F V : Type 0} → Result (WalkState F V) WalkFault → Result F WalkFault

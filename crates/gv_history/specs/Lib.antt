@@ -1,4 +1,3 @@
-pub mod Beside
 pub mod Fault
 pub mod Seen
 pub mod Table

@@ -7,7 +7,7 @@ use gv_base::NoMemory;
 use thiserror::Error;
 
 /// Why a move is refused. `Missing` stands one past the last move, where history is left; `Order` is
-/// told before the other causes. This project's own.
+/// told before the other causes, and `BadChoice` after them. This project's own.
 #[derive(Clone, Copy, Debug, PartialEq, Eq, Error)]
 pub enum WalkCause {
     #[error("Repeated")]
@@ -24,11 +24,33 @@ pub enum WalkCause {
     Order,
     #[error("Missing")]
     Missing,
+    #[error("BadChoice")]
+    BadChoice,
+}
+
+impl WalkCause {
+    ghost use Rattle.gv_history.specs.Fault.{cause_name};
+
+    /// The cause's name as a report writes it.
+    pub fn name(self) -> &'static str
+        ensures { result.now ≡ cause_name self }
+    {
+        match self {
+            WalkCause::Repeated => "Repeated",
+            WalkCause::NotCalled => "NotCalled",
+            WalkCause::ActedAlready => "ActedAlready",
+            WalkCause::NotActed => "NotActed",
+            WalkCause::WrongReply => "WrongReply",
+            WalkCause::Order => "Order",
+            WalkCause::Missing => "Missing",
+            WalkCause::BadChoice => "BadChoice",
+        }
+    }
 }
 
 /// Why a walk gives nothing: memory was refused, or a move is, by its number from 1.
 /// This project's own.
-#[derive(Debug, Drop, Error)]
+#[derive(Debug, PartialEq, Eq, Drop, Error)]
 pub enum WalkFault {
     #[error("out of memory")]
     NoMemory,

@@ -4,8 +4,6 @@
 mod fault;
 mod seen;
 mod table;
-#[cfg(test)]
-mod tests;
 mod walker;
 mod walking;
 

@@ -1,15 +1,15 @@
 //! The walk along the moves of an explanation.
 
-ghost use Rattle.std.specs.Prelude.{◌≡◌, ◌≤◌, ◌<◌, ◌+◌, ◌^◌, IfOk, IfErr, OnOk, map};
-ghost use Rattle.gv_terms.specs.declared.spec.Spec.{Spec as Written};
+ghost use Rattle.std.specs.Prelude.{◌≡◌, ◌≤◌, ◌<◌, ◌+◌, ◌^◌, IfOk, IfErr, OnOk, map, Some};
+ghost use Rattle.gv_atomic.specs.declared.spec.Spec.{Spec as Written};
 ghost use Rattle.gv_terms.specs.Values.{value_eq};
 ghost use Rattle.gv_spec.specs.Atomic.{atomic_of};
 ghost use Rattle.gv_spec.specs.History.{entry_of, move_of};
 ghost use Rattle.gv_spec.specs.Move as move;
-ghost use Rattle.gv_spec.specs.Entry as told;
-ghost use Rattle.gv_spec.specs.Walks.{Acted, Answered, entered, first_walk, walk_called, walk_acted, walk_answered, walk_moved};
+ghost use Rattle.gv_spec.specs.Move.{shown};
+ghost use Rattle.gv_spec.specs.Walks.{Acted, Answered, entered, first_walk, walk_called, walk_acted, walk_answered, booted_to, walk_moved, in_order, left_after, moved_beside};
 ghost use Rattle.gv_history.specs.Fault.{Follows, IsRefused};
-ghost use Rattle.gv_history.specs.Beside.{in_order, moved_beside, left_after, HasOps};
+ghost use Rattle.gv_history.specs.Walker.{HasOps};
 
 use crate::fault::{WalkCause, WalkFault};
 use crate::seen::Standing;
@@ -71,7 +71,10 @@ impl Walker {
         ensures boots { OnOk result (self.new.table.boots ≤ self.old.table.boots + 1) }
     {
         match m {
-            Move::Act { number } => self.act(alloc, spec, index, *number),
+            Move::Act { number, choices } => {
+                self.act(alloc, spec, index, *number, choices.as_slice())
+            }
+            Move::Boot { choices } => self.boot(alloc, spec, index, choices.as_slice()),
             Move::Other(entry) => self.tell(alloc, spec, index, entry),
         }
     }
@@ -92,7 +95,7 @@ impl Walker {
             Entry::Call { number, op, args } => self.call(alloc, index, *number, *op, args),
             Entry::Answer { number, reply } => self.answer(index, *number, reply),
             Entry::Crash => Ok(()),
-            Entry::Boot => self.boot(alloc, spec),
+            Entry::Boot => self.boot(alloc, spec, index, &[]),
         }
     }
 
@@ -105,7 +108,8 @@ impl Walker {
         op: u32,
         args: &List<Value>,
     ) -> Result<(), WalkFault>
-        ensures step { (s : Written) → Follows index result (walk_called (atomic_of s) (walk_in self.old) number op args.now (standing_in self.old.table number)) (walk_in self.new) }
+        ensures step { (s : Written) → Follows index result
+            (walk_called (atomic_of s) (walk_in self.old) number op args.now (standing_in self.old.table number)) (walk_in self.new) }
         ensures boots { self.new.table.boots ≡ self.old.table.boots }
     {
         if self.table.was_called(number) {
@@ -119,48 +123,66 @@ impl Walker {
         Ok(())
     }
 
-    // A call acts: its operation is applied to the fields, and its reply kept.
-    fn act(&mut self, alloc: Global, spec: &Spec, index: u32, number: u32) -> Result<(), WalkFault>
+    // A call acts: its operation is applied to the fields under these choices, and its reply kept.
+    fn act(
+        &mut self,
+        alloc: Global,
+        spec: &Spec,
+        index: u32,
+        number: u32,
+        choices: &[u64],
+    ) -> Result<(), WalkFault>
         requires { HasOps spec.now (walk_in self.old) }
-        ensures step { Follows index result (walk_acted (atomic_of spec.now) (walk_in self.old) number (standing_in self.old.table number)) (walk_in self.new) }
+        ensures step { Follows index result (walk_acted (atomic_of spec.now) (walk_in self.old) number choices.now (standing_in self.old.table number))
+            (walk_in self.new) }
         ensures boots { self.new.table.boots ≡ self.old.table.boots }
     {
-        let (fields, reply) = self.applied(alloc, spec, index, number)?;
+        let (fields, reply) = self.applied(alloc, spec, index, number, choices)?;
         self.table.enter(number, Standing::Acted { reply })?;
         self.fields = fields;
         Ok(())
     }
 
-    // The fields and the reply after the call's operation, where it is in the table and has not acted.
+    // The fields and the reply after the call's operation, where it is in the table, has not acted, and
+    // the choices are allowed.
     fn applied(
         &self,
         alloc: Global,
         spec: &Spec,
         index: u32,
         number: u32,
+        choices: &[u64],
     ) -> Result<(State, Value), WalkFault>
         requires { HasOps spec.now (walk_in self.now) }
-        ensures ok { IfOk result (λ r. walk_acted (atomic_of spec.now) (walk_in self.now) number (standing_in self.now.table number) ≡ Ok (record { fields = r.0.values; table = entered (standing_in self.now.table) number (Acted r.1) })) }
-        ensures err { IfErr result (IsRefused index (walk_acted (atomic_of spec.now) (walk_in self.now) number (standing_in self.now.table number))) }
+        ensures ok { IfOk result (λ r. walk_acted (atomic_of spec.now) (walk_in self.now) number choices.now (standing_in self.now.table number)
+            ≡ Ok (record { fields = r.0.values; table = entered (standing_in self.now.table) number (Acted r.1) })) }
+        ensures err { IfErr result (IsRefused index
+            (walk_acted (atomic_of spec.now) (walk_in self.now) number choices.now (standing_in self.now.table number))) }
     {
-        match self.table.present(number) {
+        let cause = match self.table.present(number) {
             Some(Standing::Called { op, args }) => {
-                Ok(apply(alloc, spec, &self.fields, *op, args.as_slice())?)
+                if let Some(after) = apply(
+                    alloc,
+                    spec,
+                    &self.fields,
+                    *op,
+                    args.as_slice(),
+                    choices,
+                )? {
+                    return Ok(after);
+                }
+                WalkCause::BadChoice
             }
-            Some(Standing::Acted { .. }) => Err(WalkFault::At {
-                index,
-                cause: WalkCause::ActedAlready,
-            }),
-            Some(Standing::Answered) | None => Err(WalkFault::At {
-                index,
-                cause: WalkCause::NotCalled,
-            }),
-        }
+            Some(Standing::Acted { .. }) => WalkCause::ActedAlready,
+            Some(Standing::Answered) | None => WalkCause::NotCalled,
+        };
+        Err(WalkFault::At { index, cause })
     }
 
     // A call answers with the reply that its act kept, and leaves the table.
     fn answer(&mut self, index: u32, number: u32, reply: &Value) -> Result<(), WalkFault>
-        ensures step { (s : Written) → Follows index result (walk_answered (atomic_of s) (walk_in self.old) number reply.now (standing_in self.old.table number)) (walk_in self.new) }
+        ensures step { (s : Written) → Follows index result
+            (walk_answered (atomic_of s) (walk_in self.old) number reply.now (standing_in self.old.table number)) (walk_in self.new) }
         ensures boots { self.new.table.boots ≡ self.old.table.boots }
     {
         self.replies(index, number, reply)?;
@@ -170,8 +192,11 @@ impl Walker {
 
     // Whether this is the reply that the call's act kept.
     fn replies(&self, index: u32, number: u32, reply: &Value) -> Result<(), WalkFault>
-        ensures ok { OnOk result ((s : Written) → walk_answered (atomic_of s) (walk_in self.now) number reply.now (standing_in self.now.table number) ≡ Ok (record (walk_in self.now) { table = entered (standing_in self.now.table) number Answered })) }
-        ensures err { IfErr result (λ e. (s : Written) → IsRefused index (walk_answered (atomic_of s) (walk_in self.now) number reply.now (standing_in self.now.table number)) e) }
+        ensures ok { OnOk result ((s : Written)
+            → walk_answered (atomic_of s) (walk_in self.now) number reply.now (standing_in self.now.table number)
+            ≡ Ok (record (walk_in self.now) { table = entered (standing_in self.now.table) number Answered })) }
+        ensures err { IfErr result (λ e. (s : Written)
+            → IsRefused index (walk_answered (atomic_of s) (walk_in self.now) number reply.now (standing_in self.now.table number)) e) }
     {
         let cause = match self.table.present(number) {
             Some(Standing::Acted { reply: kept }) => {
@@ -186,39 +211,62 @@ impl Walker {
         Err(WalkFault::At { index, cause })
     }
 
-    // Recovery returned: the fields are those after a crash, and the table is emptied.
-    fn boot(&mut self, alloc: Global, spec: &Spec) -> Result<(), WalkFault>
+    // Recovery returned: the fields are those after the crash that it ends, under these choices, and the
+    // table is emptied.
+    fn boot(
+        &mut self,
+        alloc: Global,
+        spec: &Spec,
+        index: u32,
+        choices: &[u64],
+    ) -> Result<(), WalkFault>
         requires { self.old.table.boots + 1 < 2 ^ 64 }
-        ensures ok { OnOk result (walk_moved (atomic_of spec.now) (walk_in self.old) (move.Other told.Boot) ≡ Ok (walk_in self.new)) }
-        ensures err { IfErr result (λ e. e ≡ WalkFault.NoMemory) }
+        ensures step { Follows index result
+            (booted_to (atomic_of spec.now) (walk_in self.old) ((atomic_of spec.now).crashed choices.now self.old.fields.values)) (walk_in self.new) }
         ensures boots { OnOk result (self.new.table.boots ≡ self.old.table.boots + 1) }
     {
-        self.fields = crashed(alloc, spec, &self.fields)?;
-        self.table.boot();
-        Ok(())
+        match crashed(alloc, spec, &self.fields, choices)? {
+            Some(fields) => {
+                self.fields = fields;
+                self.table.boot();
+                Ok(())
+            }
+            None => Err(WalkFault::At {
+                index,
+                cause: WalkCause::BadChoice,
+            }),
+        }
     }
 }
 
-// Whether a move is an act, or the next entry of what is left of the history.
+// Whether a move may stand here: an act may, and what shows the next entry of what is left of the history.
 fn is_in_order(left: &[Entry], m: &Move) -> bool
-    ensures { result ≡ in_order value_eq (map entry_of left.now) (move_of m.now) }
+    ensures { result ≡ in_order value_eq (map entry_of left.now) (shown (move_of m.now)) }
 {
     match m {
         Move::Act { .. } => true,
-        Move::Other(entry) => match left {
-            [next, ..] => entry.same(next),
-            [] => false,
-        },
+        Move::Boot { .. } => is_next(left, &Entry::Boot),
+        Move::Other(entry) => is_next(left, entry),
+    }
+}
+
+// Whether this is the next entry of what is left of the history.
+fn is_next(left: &[Entry], entry: &Entry) -> bool
+    ensures { result ≡ in_order value_eq (map entry_of left.now) (Some (entry_of entry.now)) }
+{
+    match left {
+        [next, ..] => entry.same(next),
+        [] => false,
     }
 }
 
 /// What is left of the history after a move.
 pub fn rest_after<'h>(left: &'h [Entry], m: &Move) -> &'h [Entry]
-    ensures { map entry_of result.now ≡ left_after (map entry_of left.now) (move_of m.now) }
+    ensures { map entry_of result.now ≡ left_after (map entry_of left.now) (shown (move_of m.now)) }
 {
     match m {
         Move::Act { .. } => left,
-        Move::Other(_) => match left {
+        Move::Boot { .. } | Move::Other(_) => match left {
             [_, rest @ ..] => rest,
             [] => left,
         },

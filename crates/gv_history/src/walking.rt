@@ -10,7 +10,7 @@ use gv_spec::{Entry, Move, Spec, State};
 use std::alloc::Global;
 
 /// The fields at the end of the walk along the moves, where they explain the history: without their
-/// acts they are the history, and the walk refuses none. Else the first move that is refused, counted
+/// acts, and the choices of boots, they are the history, and the walk refuses none. Else the first move that is refused, counted
 /// from 1, and why. This project's own.
 pub fn walk(
     alloc: Global,

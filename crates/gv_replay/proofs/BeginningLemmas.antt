@@ -11,7 +11,8 @@ use Rattle.gv_replay.specs.declared.part.Part.TheVariants as part
 use Rattle.gv_replay.specs.declared.sight.Sight.{Sight}
 use Rattle.gv_replay.specs.declared.what.What.TheVariants as what
 use Rattle.gv_replay.specs.Beginnings.{IsBeginning, IsMisplaced, token, unfinished}
-use Rattle.gv_replay.specs.Lines.{Fault, fault_at, stepped, put, behind, last_line, lines_from}
+use Rattle.gv_text.specs.Stops.{Fault}
+use Rattle.gv_replay.specs.Lines.{fault_at, stepped, put, behind, last_line, lines_from}
 use Rattle.gv_replay.specs.Parts.{line_of}
 use Rattle.gv_replay.specs.Results.{map_ok}
 use Rattle.gv_replay.specs.Sights.{code_of}
@@ -45,6 +46,13 @@ completes kind end None = record { more = []; lines = []; read = refl }
 completes kind end (Some (part.Call at)) = record { more = zero_token ∷ name_token ∷ []; lines = _; read = refl }
 completes kind end (Some part.Answer) = record { more = zero_token ∷ []; lines = _; read = refl }
 completes kind end (Some part.Act) = record { more = zero_token ∷ []; lines = _; read = refl }
+completes kind end (Some (part.Acting n cs)) = record { more = []; lines = _; read = refl }
+completes kind end (Some (part.Booting cs)) = record { more = []; lines = _; read = refl }
+completes kind end (Some (part.Step at)) = record { more = zero_token ∷ []; lines = _; read = refl }
+completes kind end (Some (part.Stepping at t)) = record { more = []; lines = _; read = refl }
+completes kind end (Some (part.Fail at)) = record { more = zero_token ∷ []; lines = _; read = refl }
+completes kind end (Some (part.Grow at)) = record { more = zero_token ∷ zero_token ∷ []; lines = _; read = refl }
+completes kind end (Some (part.Growing at t)) = record { more = zero_token ∷ []; lines = _; read = refl }
 completes kind end (Some (part.Numbered at n)) = record { more = name_token ∷ []; lines = _; read = refl }
 completes kind end (Some (part.Arguments c)) = record { more = []; lines = _; read = refl }
 completes kind end (Some (part.ArgumentByte c b)) = record { more = []; lines = _; read = refl }

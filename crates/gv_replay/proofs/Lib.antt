@@ -1,7 +1,8 @@
 pub mod AnswerLemmas
 pub mod BeginningLemmas
-pub mod NumberLemmas
+pub mod FirstLemmas
 pub mod OfSpecLemmas
+pub mod OrderLemmas
 pub mod ProgressLemmas
 pub mod ReadLemmas
 pub mod SpanLemmas

@@ -1,5 +1,5 @@
 -- What is spelled is read: the fronts of a line lead to it.
-use Rattle.std.proofs.Common.{◌≡◌, ℕ, false, cond, List, [], ◌∷◌, ◌++◌, Option, Some, None, refl, sym, ap, subst, ◌∙◌, append_assoc, append-nil}
+use Rattle.std.proofs.Common.{◌≡◌, ℕ, true, false, cond, List, [], ◌∷◌, ◌++◌, Option, Some, None, refl, sym, ap, subst, ◌∙◌, append_assoc, append-nil}
 use Rattle.std.specs.Prelude.{Result, Ok, Err, option_map, option_and_then, codes}
 use Rattle.std.specs.List.{AllByRecursion}
 use Rattle.gv_replay.specs.declared.argument.Argument.{Argument}
@@ -8,16 +8,18 @@ use Rattle.gv_replay.specs.declared.line.CallLine.{CallLine}
 use Rattle.gv_replay.specs.declared.line.Line.{Line}
 use Rattle.gv_replay.specs.declared.line.Line.TheVariants as line
 use Rattle.gv_replay.specs.declared.line.TextKind.{TextKind}
+use Rattle.gv_replay.specs.declared.line.TextKind.TheVariants as text_kind
 use Rattle.gv_replay.specs.declared.part.OneByte.{OneByte}
 use Rattle.gv_replay.specs.declared.part.Part.{Part}
 use Rattle.gv_replay.specs.declared.part.Part.TheVariants as part
 use Rattle.gv_replay.specs.declared.sight.Sight.{Sight}
 use Rattle.gv_replay.specs.declared.what.What.{What}
 use Rattle.gv_replay.specs.declared.what.What.TheVariants as what
-use Rattle.gv_replay.specs.Lines.{Fault, fault_at, made, begun, turned, stepped, put, behind, last_line, lines_from}
-use Rattle.gv_replay.specs.Parts.{written_by, written_at, plain_in, byte_by, is_star, single, times, first, first_by, with_argument, argument_by, argument, named_by, reply_by, answered, act_part, next, line_of}
+use Rattle.gv_text.specs.Stops.{Fault}
+use Rattle.gv_replay.specs.Lines.{fault_at, made, begun, turned, stepped, put, behind, last_line, lines_from}
+use Rattle.gv_replay.specs.Parts.{number_in, written_by, written_at, plain_in, byte_by, is_star, single, times, first, first_by, with_argument, argument_by, argument, named_by, numbered_part, reply_by, answered, act_part, more_choices, counted_part, failing_part, grown_part, next, line_of}
 use Rattle.gv_replay.specs.Results.{map_ok}
-use Rattle.gv_replay.specs.Spelling.{IsValue, alone, one_byte, byte_times, AreValues, no_value, value_and, IsLine, a_call, an_answer, a_reply, an_act, a_crash, a_boot, an_end, OnOneLine, StartLine, AreLines, no_line, line_and}
+use Rattle.gv_replay.specs.Spelling.{IsValue, alone, one_byte, byte_times, AreValues, no_value, value_and, AreChoices, no_choice, choice_and, IsLine, a_call, a_start, an_answer, a_reply, an_act, a_crash, a_boot, a_choosing_boot, an_end, a_step, steps, a_fail, a_grow, numbers_calls, OnOneLine, StartLine, AreLines, no_line, line_and}
 
 -- the front of a line with more tokens
 abbrev pub run : Part → List Sight → Option Part
@@ -150,11 +152,35 @@ reply_reaches n (byte_times s t u b m e star number) =
       refl,
     )
 
+-- choices behind a front that takes them
+choices_reach : (front : List ℕ → Part) → ((cs : List ℕ) (s : Sight) → next (front cs) s ≡ option_map (λ n. front (more_choices cs n)) (number_in s))
+    → {ss : List Sight} {more : List ℕ} → AreChoices ss more → (cs : List ℕ) → run (front cs) ss ≡ Some (front (cs ++ more))
+choices_reach front step no_choice cs = ap (λ xs. Some (front xs)) (sym (append-nil cs))
+choices_reach front step (choice_and s {ss = ss} n {rest = rest} is more) cs =
+    let moved : next (front cs) s ≡ Some (front (more_choices cs n)) = step cs s ∙ ap (option_map (λ m. front (more_choices cs m))) is in
+    run_one (front cs) (front (more_choices cs n)) s ss moved ∙ choices_reach front step more (more_choices cs n)
+    ∙ ap (λ xs. Some (front xs)) (append_assoc cs (n.value ∷ []) rest)
+
+-- first words, by the kinds of text in which they stand
+call_first : (kind : TextKind) (at : ℕ) → numbers_calls kind ≡ true → first_by kind at (what.Word (codes "call")) ≡ Some (part.Call at)
+call_first text_kind.History at h = refl
+call_first text_kind.Moves at h = refl
+call_first text_kind.Schedule at h = absurd cc
+
+answer_first : (kind : TextKind) (at : ℕ) → numbers_calls kind ≡ true → first_by kind at (what.Word (codes "answer")) ≡ Some part.Answer
+answer_first text_kind.History at h = refl
+answer_first text_kind.Moves at h = refl
+answer_first text_kind.Schedule at h = absurd cc
+
+-- a word that stands in one kind of text
+own_first : (kind of : TextKind) (at : ℕ) (w : List ℕ) (x : Part) → kind ≡ of → first_by of at (what.Word w) ≡ Some x → first_by kind at (what.Word w) ≡ Some x
+own_first kind of at w x same e = ap (λ k. first_by k at (what.Word w)) same ∙ e
+
 line_reached : {kind : TextKind} {ss : List Sight} {l : Line} → IsLine kind ss l → HasLine kind ss l
-line_reached {kind} (a_call w k o n op {ss = ss} args cw kn ow vs) =
-    let c : CallLine = record { at = w.at; number = n; op_at = o.at; op = op; args = [] } in
-    let one : next (part.Call w.at) k ≡ Some (part.Numbered w.at n) = ap (option_map (part.Numbered w.at)) kn in
-    let two : next (part.Numbered w.at n) o ≡ Some (part.Arguments c) = ap (named_by w.at n o.at) ow in
+line_reached {kind} (a_call w k o n op {ss = ss} args nc cw kn ow vs) =
+    let c : CallLine = record { at = w.at; number = Some n; op_at = o.at; op = op; args = [] } in
+    let one : next (part.Call w.at) k ≡ Some (part.Numbered w.at (Some n)) = ap (option_map (numbered_part w.at)) kn in
+    let two : next (part.Numbered w.at (Some n)) o ≡ Some (part.Arguments c) = ap (named_by w.at (Some n) o.at) ow in
     let last = values_reach vs (part.Arguments c) c (at_values c) in
     record {
       end = last.end;
@@ -163,48 +189,83 @@ line_reached {kind} (a_call w k o n op {ss = ss} args cw kn ow vs) =
         rest = k ∷ o ∷ ss;
         begun = part.Call w.at;
         tokens = refl;
-        start = ap (first_by kind w.at) cw;
-        by = run_one (part.Call w.at) (part.Numbered w.at n) k (o ∷ ss) one ∙ run_one (part.Numbered w.at n) (part.Arguments c) o ss two ∙ last.by;
+        start = ap (first_by kind w.at) cw ∙ call_first kind w.at nc;
+        by = run_one (part.Call w.at) (part.Numbered w.at (Some n)) k (o ∷ ss) one ∙ run_one (part.Numbered w.at (Some n)) (part.Arguments c) o ss two ∙ last.by;
       };
       line = open_line last.is_open;
     }
-line_reached {kind} (an_answer w k n cw kn) =
+line_reached {kind} (a_start w o op {ss = ss} args m cw ow vs) =
+    let c : CallLine = record { at = w.at; number = None; op_at = o.at; op = op; args = [] } in
+    let two : next (part.Numbered w.at None) o ≡ Some (part.Arguments c) = ap (named_by w.at None o.at) ow in
+    let last = values_reach vs (part.Arguments c) c (at_values c) in
+    record {
+      end = last.end;
+      front = record {
+        head = w;
+        rest = o ∷ ss;
+        begun = part.Numbered w.at None;
+        tokens = refl;
+        start = ap (first_by kind w.at) cw ∙ own_first kind text_kind.Schedule w.at (codes "call") (part.Numbered w.at None) m refl;
+        by = run_one (part.Numbered w.at None) (part.Arguments c) o ss two ∙ last.by;
+      };
+      line = open_line last.is_open;
+    }
+line_reached {kind} (an_answer w k n nc cw kn) =
     let one : next part.Answer k ≡ Some (part.Replying n) = ap (option_map part.Replying) kn in
     record {
       end = part.Replying n;
-      front = record { head = w; rest = k ∷ []; begun = part.Answer; tokens = refl; start = ap (first_by kind w.at) cw; by = run_one part.Answer (part.Replying n) k [] one };
+      front = record { head = w; rest = k ∷ []; begun = part.Answer; tokens = refl; start = ap (first_by kind w.at) cw ∙ answer_first kind w.at nc; by = run_one part.Answer (part.Replying n) k [] one };
       line = refl;
     }
-line_reached {kind} (a_reply w k n {ss = ss} a cw kn v) =
+line_reached {kind} (a_reply w k n {ss = ss} a nc cw kn v) =
     let one : next part.Answer k ≡ Some (part.Replying n) = ap (option_map part.Replying) kn in
     let last = reply_reaches n v in
     record {
       end = last.0;
-      front = record { head = w; rest = k ∷ ss; begun = part.Answer; tokens = refl; start = ap (first_by kind w.at) cw; by = run_one part.Answer (part.Replying n) k ss one ∙ last.1 };
+      front = record { head = w; rest = k ∷ ss; begun = part.Answer; tokens = refl; start = ap (first_by kind w.at) cw ∙ answer_first kind w.at nc; by = run_one part.Answer (part.Replying n) k ss one ∙ last.1 };
       line = last.2;
     }
-line_reached {kind} (an_act w k n m cw kn) =
-    let one : next part.Act k ≡ Some (part.Whole (line.Act n)) = ap (option_map act_part) kn in
+line_reached {kind} (an_act w k n {ss = ss} choices m cw kn cs) =
+    let one : next part.Act k ≡ Some (part.Acting n []) = ap (option_map act_part) kn in
     record {
-      end = part.Whole (line.Act n);
+      end = part.Acting n choices;
       front = record {
         head = w;
-        rest = k ∷ [];
+        rest = k ∷ ss;
         begun = part.Act;
         tokens = refl;
-        start = ap (first_by kind w.at) cw ∙ ap (λ j. first_by j w.at (what.Word (codes "act"))) m;
-        by = run_one part.Act (part.Whole (line.Act n)) k [] one;
+        start = ap (first_by kind w.at) cw ∙ own_first kind text_kind.Moves w.at (codes "act") part.Act m refl;
+        by = run_one part.Act (part.Acting n []) k ss one ∙ choices_reach (part.Acting n) (λ xs s. refl) cs [];
       };
       line = refl;
     }
 line_reached {kind} (a_crash w cw) = record {
-  end = part.Whole line.Crash;
-  front = record { head = w; rest = []; begun = part.Whole line.Crash; tokens = refl; start = ap (first_by kind w.at) cw; by = refl };
+  end = part.Whole (line.Crash w.at);
+  front = record { head = w; rest = []; begun = part.Whole (line.Crash w.at); tokens = refl; start = ap (first_by kind w.at) cw; by = refl };
   line = refl;
 }
-line_reached {kind} (a_boot w cw) = record {
-  end = part.Whole line.Boot;
-  front = record { head = w; rest = []; begun = part.Whole line.Boot; tokens = refl; start = ap (first_by kind w.at) cw; by = refl };
+line_reached {kind} (a_boot w m cw) = record {
+  end = part.Whole (line.Boot []);
+  front = record {
+    head = w;
+    rest = [];
+    begun = part.Whole (line.Boot []);
+    tokens = refl;
+    start = ap (first_by kind w.at) cw ∙ own_first kind text_kind.History w.at (codes "boot") (part.Whole (line.Boot [])) m refl;
+    by = refl;
+  };
+  line = refl;
+}
+line_reached {kind} (a_choosing_boot w {ss = ss} choices m cw cs) = record {
+  end = part.Booting choices;
+  front = record {
+    head = w;
+    rest = ss;
+    begun = part.Booting [];
+    tokens = refl;
+    start = ap (first_by kind w.at) cw ∙ own_first kind text_kind.Moves w.at (codes "boot") (part.Booting []) m refl;
+    by = choices_reach part.Booting (λ xs s. refl) cs [];
+  };
   line = refl;
 }
 line_reached {kind} (an_end w m cw) = record {
@@ -214,11 +275,72 @@ line_reached {kind} (an_end w m cw) = record {
     rest = [];
     begun = part.Whole line.End;
     tokens = refl;
-    start = ap (first_by kind w.at) cw ∙ ap (λ j. first_by j w.at (what.Word (codes "end"))) m;
+    start = ap (first_by kind w.at) cw ∙ own_first kind text_kind.History w.at (codes "end") (part.Whole line.End) m refl;
     by = refl;
   };
   line = refl;
 }
+line_reached {kind} (a_step w t thread m cw tn) =
+    let one : next (part.Step w.at) t ≡ Some (part.Stepping w.at thread) = ap (option_map (part.Stepping w.at)) tn in
+    record {
+      end = part.Stepping w.at thread;
+      front = record {
+        head = w;
+        rest = t ∷ [];
+        begun = part.Step w.at;
+        tokens = refl;
+        start = ap (first_by kind w.at) cw ∙ own_first kind text_kind.Schedule w.at (codes "step") (part.Step w.at) m refl;
+        by = run_one (part.Step w.at) (part.Stepping w.at thread) t [] one;
+      };
+      line = refl;
+    }
+line_reached {kind} (steps w t c thread count m cw tn cn) =
+    let whole : Part = part.Whole (line.Step w.at thread (Some count)) in
+    let one : next (part.Step w.at) t ≡ Some (part.Stepping w.at thread) = ap (option_map (part.Stepping w.at)) tn in
+    let two : next (part.Stepping w.at thread) c ≡ Some whole = ap (option_map (counted_part w.at thread)) cn in
+    record {
+      end = whole;
+      front = record {
+        head = w;
+        rest = t ∷ c ∷ [];
+        begun = part.Step w.at;
+        tokens = refl;
+        start = ap (first_by kind w.at) cw ∙ own_first kind text_kind.Schedule w.at (codes "step") (part.Step w.at) m refl;
+        by = run_one (part.Step w.at) (part.Stepping w.at thread) t (c ∷ []) one ∙ run_one (part.Stepping w.at thread) whole c [] two;
+      };
+      line = refl;
+    }
+line_reached {kind} (a_fail w d disk m cw dn) =
+    let whole : Part = part.Whole (line.Fail w.at disk) in
+    let one : next (part.Fail w.at) d ≡ Some whole = ap (option_map (failing_part w.at)) dn in
+    record {
+      end = whole;
+      front = record {
+        head = w;
+        rest = d ∷ [];
+        begun = part.Fail w.at;
+        tokens = refl;
+        start = ap (first_by kind w.at) cw ∙ own_first kind text_kind.Schedule w.at (codes "fail") (part.Fail w.at) m refl;
+        by = run_one (part.Fail w.at) whole d [] one;
+      };
+      line = refl;
+    }
+line_reached {kind} (a_grow w t x thread extra m cw tn xn) =
+    let whole : Part = part.Whole (line.Grow w.at thread extra) in
+    let one : next (part.Grow w.at) t ≡ Some (part.Growing w.at thread) = ap (option_map (part.Growing w.at)) tn in
+    let two : next (part.Growing w.at thread) x ≡ Some whole = ap (option_map (grown_part w.at thread)) xn in
+    record {
+      end = whole;
+      front = record {
+        head = w;
+        rest = t ∷ x ∷ [];
+        begun = part.Grow w.at;
+        tokens = refl;
+        start = ap (first_by kind w.at) cw ∙ own_first kind text_kind.Schedule w.at (codes "grow") (part.Grow w.at) m refl;
+        by = run_one (part.Grow w.at) (part.Growing w.at thread) t (x ∷ []) one ∙ run_one (part.Growing w.at thread) whole x [] two;
+      };
+      line = refl;
+    }
 
 -- ---- whole texts
 
@@ -255,9 +377,12 @@ pub data IsBefore : Option Part → Option Line → List Sight → Type 0 where
 turned_by : (kind : TextKind) (l : Line) (s : Sight) (ss : List Sight) → (l ≡ line.End → s ∷ ss ≡ []) → turned kind l s ≡ begun kind (Some l) s
 turned_by kind (line.Call c) s ss h = refl
 turned_by kind (line.Answer n r) s ss h = refl
-turned_by kind (line.Act n) s ss h = refl
-turned_by kind line.Crash s ss h = refl
-turned_by kind line.Boot s ss h = refl
+turned_by kind (line.Act n choices) s ss h = refl
+turned_by kind (line.Crash at) s ss h = refl
+turned_by kind (line.Boot choices) s ss h = refl
+turned_by kind (line.Step at thread count) s ss h = refl
+turned_by kind (line.Fail at disk) s ss h = refl
+turned_by kind (line.Grow at thread extra) s ss h = refl
 turned_by kind line.End s ss h = let none : s ∷ ss ≡ [] = h refl in absurd cc
 
 -- the first token of a line, behind another or not

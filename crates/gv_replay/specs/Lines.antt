@@ -1,7 +1,7 @@
 -- The lines of a text, one after another.
 use Rattle.std.specs.Prelude.{ℕ, if◌then◌else◌, Option, Some, None, option_map, option_and_then, Result, Ok, Err, List, [], ◌∷◌}
-use Rattle.gv_base.specs.declared.answers.Code.{Code}
 use Rattle.gv_base.specs.declared.answers.Code.TheVariants as codes
+use Rattle.gv_text.specs.Stops.{Fault}
 use Rattle.gv_replay.specs.declared.line.Line.{Line}
 use Rattle.gv_replay.specs.declared.line.Line.TheVariants as line
 use Rattle.gv_replay.specs.declared.line.TextKind.{TextKind}
@@ -11,10 +11,6 @@ use Rattle.gv_replay.specs.declared.sight.Sight.{Sight}
 use Rattle.gv_replay.specs.Parts.{first, next, line_of}
 use Rattle.gv_replay.specs.Results.{map_ok}
 use Rattle.gv_replay.specs.Sights.{code_of}
-
--- a byte of the text and a code
-abbrev pub Fault : Type 0
-Fault = ℕ × Code
 
 -- a token that may not stand where it does
 abbrev pub fault_at : Sight → Fault
@@ -31,9 +27,12 @@ begun kind done s = option_map (made done) (first kind s)
 abbrev pub turned : TextKind → Line → Sight → Option Step
 turned kind (line.Call c) s = begun kind (Some (line.Call c)) s
 turned kind (line.Answer number reply) s = begun kind (Some (line.Answer number reply)) s
-turned kind (line.Act number) s = begun kind (Some (line.Act number)) s
-turned kind line.Crash s = begun kind (Some line.Crash) s
-turned kind line.Boot s = begun kind (Some line.Boot) s
+turned kind (line.Act number choices) s = begun kind (Some (line.Act number choices)) s
+turned kind (line.Crash at) s = begun kind (Some (line.Crash at)) s
+turned kind (line.Boot choices) s = begun kind (Some (line.Boot choices)) s
+turned kind (line.Step at thread count) s = begun kind (Some (line.Step at thread count)) s
+turned kind (line.Fail at disk) s = begun kind (Some (line.Fail at disk)) s
+turned kind (line.Grow at thread extra) s = begun kind (Some (line.Grow at thread extra)) s
 turned kind line.End s = None
 
 -- One more token of a text, where it may stand there: it goes on with the line, or it begins a line, and the one

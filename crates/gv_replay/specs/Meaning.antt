@@ -6,9 +6,9 @@ use Rattle.gv_terms.specs.declared.sort.Sort.TheVariants as sort
 use Rattle.gv_terms.specs.Sorts.{sort_eq}
 use Rattle.gv_terms.specs.declared.value.Value.{Value}
 use Rattle.gv_terms.specs.declared.value.Value.TheVariants as val
-use Rattle.gv_terms.specs.declared.spec.Var.{Var}
-use Rattle.gv_terms.specs.declared.spec.Op.{Op}
-use Rattle.gv_terms.specs.declared.spec.Spec.{Spec}
+use Rattle.gv_terms.specs.declared.var.Var.{Var}
+use Rattle.gv_atomic.specs.declared.spec.Op.{Op}
+use Rattle.gv_atomic.specs.declared.spec.Spec.{Spec}
 use Rattle.gv_spec.specs.declared.entry.Entry.{Entry}
 use Rattle.gv_spec.specs.declared.entry.Entry.TheVariants as entry
 use Rattle.gv_spec.specs.declared.explanation.Move.{Move}
@@ -20,7 +20,7 @@ use Rattle.gv_replay.specs.declared.argument.Written.TheVariants as written
 use Rattle.gv_replay.specs.declared.line.CallLine.{CallLine}
 use Rattle.gv_replay.specs.declared.line.Line.{Line}
 use Rattle.gv_replay.specs.declared.line.Line.TheVariants as line
-use Rattle.gv_replay.specs.Lines.{Fault}
+use Rattle.gv_text.specs.Stops.{Fault}
 use Rattle.gv_replay.specs.Operations.{op_named}
 use Rattle.gv_replay.specs.Results.{and_then, map_ok}
 
@@ -28,9 +28,9 @@ use Rattle.gv_replay.specs.Results.{and_then, map_ok}
 abbrev pub bounded : ℕ → Number → Result ℕ Fault
 bounded bound n = if nat_lt n.value bound then Ok n.value else Err (n.at, codes.TooMany)
 
--- a call's number
-abbrev pub call_number : Number → Result ℕ Fault
-call_number n = bounded (2 ^ 32) n
+-- the number of a call or of a thread
+abbrev pub narrow : Number → Result ℕ Fault
+narrow n = bounded (2 ^ 32) n
 
 -- how often a byte stands in a literal
 abbrev pub largest_count : ℕ
@@ -70,23 +70,43 @@ values_for [] (a ∷ rest) = Ok []
 values_for (x ∷ xs) [] = Ok []
 values_for (x ∷ xs) (a ∷ rest) = and_then (λ v. map_ok (λ vs. v ∷ vs) (values_for xs rest)) (value_for x.sort a)
 
--- a call of an operation with these parameters
-abbrev pub call_of : CallLine → ℕ → List Var → Result Entry Fault
-call_of c op params =
-    if length params == length c.args then and_then (λ n. map_ok (λ vs. entry.Call n op vs) (values_for params c.args)) (call_number c.number)
-    else Err (c.at, codes.WrongCount)
-
 abbrev pub params_of : Option Op → List Var
 params_of None = []
 params_of (Some o) = o.params
 
-abbrev pub call_by : Spec → CallLine → Option ℕ → Result Entry Fault
-call_by s c (Some op) = call_of c op (params_of (slice_get s.ops op))
-call_by s c None = and_then (λ n. Err (c.op_at, codes.Undeclared)) (call_number c.number)
+abbrev pub params_at : Spec → ℕ → List Var
+params_at s op = params_of (slice_get s.ops op)
 
--- a call: its number of arguments is tested first, as the word `call` stands before all of its parts
+-- a call has as many arguments as its operation has parameters, where there is such an operation
+abbrev pub arity_by : Spec → CallLine → Option ℕ → Result (Unit {0}) Fault
+arity_by s c None = Ok tt
+arity_by s c (Some op) = if length (params_at s op) == length c.args then Ok tt else Err (c.at, codes.WrongCount)
+
+abbrev pub arity : Spec → CallLine → Result (Unit {0}) Fault
+arity s c = arity_by s c (op_named c.op s.ops)
+
+abbrev pub with_values : ℕ → List Value → ℕ × List Value
+with_values op vs = (op, vs)
+
+abbrev pub called_by : Spec → CallLine → Option ℕ → Result (ℕ × List Value) Fault
+called_by s c None = Err (c.op_at, codes.Undeclared)
+called_by s c (Some op) = map_ok (with_values op) (values_for (params_at s op) c.args)
+
+-- the operation of a call and its arguments
+abbrev pub called : Spec → CallLine → Result (ℕ × List Value) Fault
+called s c = called_by s c (op_named c.op s.ops)
+
+-- the number of a call, which is 0 where it has none
+abbrev pub call_number : Option Number → Result ℕ Fault
+call_number None = Ok 0
+call_number (Some n) = narrow n
+
+abbrev pub entry_of_call : ℕ → ℕ × List Value → Entry
+entry_of_call n o = entry.Call n o.0 o.1
+
+-- a call: its parts are tested as they stand, and the number of arguments at the word `call`
 abbrev pub call_entry : Spec → CallLine → Result Entry Fault
-call_entry s c = call_by s c (op_named c.op s.ops)
+call_entry s c = and_then (λ _. and_then (λ n. map_ok (entry_of_call n) (called s c)) (call_number c.number)) (arity s c)
 
 abbrev pub reply_of : Option Argument → Result Value Fault
 reply_of None = Ok val.Unit
@@ -94,28 +114,33 @@ reply_of (Some a) = value_of a.written
 
 -- an answer: its reply may have any sort
 abbrev pub answer_entry : Number → Option Argument → Result Entry Fault
-answer_entry number reply = and_then (λ n. map_ok (λ v. entry.Answer n v) (reply_of reply)) (call_number number)
+answer_entry number reply = and_then (λ n. map_ok (λ v. entry.Answer n v) (reply_of reply)) (narrow number)
 
 abbrev pub told_entry : Entry → Option Move
 told_entry e = Some (move.Other e)
 
-abbrev pub told_act : ℕ → Option Move
-told_act n = Some (move.Act n)
+abbrev pub told_act : List ℕ → ℕ → Option Move
+told_act choices n = Some (move.Act n choices)
 
--- the move that a line tells, none of `end`, or why it is refused
+-- the move that a line tells, none of `end` and of lines of schedules, or why it is refused
 abbrev pub move_in : Spec → Line → Result (Option Move) Fault
 move_in s (line.Call c) = map_ok told_entry (call_entry s c)
 move_in s (line.Answer number reply) = map_ok told_entry (answer_entry number reply)
-move_in s (line.Act number) = map_ok told_act (call_number number)
-move_in s line.Crash = Ok (told_entry entry.Crash)
-move_in s line.Boot = Ok (told_entry entry.Boot)
+move_in s (line.Act number choices) = map_ok (told_act choices) (narrow number)
+move_in s (line.Crash at) = Ok (told_entry entry.Crash)
+move_in s (line.Boot choices) = Ok (Some (move.Boot choices))
 move_in s line.End = Ok None
+move_in s (line.Step at thread count) = Ok None
+move_in s (line.Fail at disk) = Ok None
+move_in s (line.Grow at thread extra) = Ok None
 
 abbrev pub listed : Option Move → List Move
 listed None = []
 listed (Some m) = m ∷ []
 
--- the moves that lines tell in their order, or why the first one that is refused is
-abbrev pub moves_of : Spec → List Line → Result (List Move) Fault
-moves_of s [] = Ok []
-moves_of s (l ∷ ls) = and_then (λ m. map_ok (λ more. listed m ++ more) (moves_of s ls)) (move_in s l)
+abbrev pub with_move : List Move → Option Move → List Move
+with_move moves m = moves ++ listed m
+
+-- moves, and the one that a line tells
+abbrev pub with_moves : Spec → List Move → Line → Result (List Move) Fault
+with_moves s moves l = map_ok (with_move moves) (move_in s l)

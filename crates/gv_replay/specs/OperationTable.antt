@@ -2,7 +2,7 @@
 use Rattle.std.specs.Prelude.{◌≡◌, ℕ, Option, List}
 use Rattle.std.specs.HashMap.{get}
 use Rattle.std.specs.Str.{bytes_eq}
-use Rattle.gv_terms.specs.declared.spec.Op.{Op}
+use Rattle.gv_atomic.specs.declared.spec.Op.{Op}
 use Rattle.gv_replay.specs.declared.operations.Operations.{Operations}
 use Rattle.gv_replay.specs.Operations.{op_named}
 

@@ -1,34 +1,20 @@
--- What the lines of a text have told.
-use Rattle.std.specs.Prelude.{Option, Some, None, Result, Ok, Err, List, [], ◌++◌}
-use Rattle.gv_spec.specs.declared.explanation.Move.{Move}
-use Rattle.gv_terms.specs.declared.spec.Spec.{Spec}
+-- What lines come to, one after another, for any kind of account T of them: what a line adds to it, or why the line is
+-- refused.
+use Rattle.std.specs.Prelude.{Option, Some, None, Result, List, fold}
+use Rattle.gv_text.specs.Stops.{Fault}
 use Rattle.gv_replay.specs.declared.line.Line.{Line}
-use Rattle.gv_replay.specs.declared.told.Told.{Told}
-use Rattle.gv_replay.specs.Lines.{Fault}
-use Rattle.gv_replay.specs.Meaning.{move_in, listed}
+use Rattle.gv_replay.specs.Results.{and_then}
 
-abbrev pub nothing : Told
-nothing = record { moves = []; fault = None }
+module _ {T : Type 0} (with_line : T → Line → Result T Fault) where
+  -- one more line; what comes behind a fault counts for nothing
+  abbrev pub tell : Result T Fault → Line → Result T Fault
+  tell told l = and_then (λ t. with_line t l) told
 
-abbrev pub with_move : List Move → Option Move → List Move
-with_move moves m = moves ++ listed m
+  -- all of some lines
+  abbrev pub tell_all : Result T Fault → List Line → Result T Fault
+  tell_all told ls = fold tell told ls
 
-abbrev pub with_result : List Move → Result (Option Move) Fault → Told
-with_result moves (Ok m) = record { moves = with_move moves m; fault = None }
-with_result moves (Err f) = record { moves = moves; fault = Some f }
-
-abbrev pub tell_unless : List Move → Option Fault → Result (Option Move) Fault → Told
-tell_unless moves (Some f) r = record { moves = moves; fault = Some f }
-tell_unless moves None r = with_result moves r
-
--- one more line
-abbrev pub tell : Spec → Told → Line → Told
-tell s t l = tell_unless t.moves t.fault (move_in s l)
-
--- what has been told, or the first fault
-abbrev pub verdict_by : List Move → Option Fault → Result (List Move) Fault
-verdict_by moves None = Ok moves
-verdict_by moves (Some f) = Err f
-
-abbrev pub verdict : Told → Result (List Move) Fault
-verdict t = verdict_by t.moves t.fault
+  -- a line, where one is done
+  abbrev pub tell_done : Result T Fault → Option Line → Result T Fault
+  tell_done told None = told
+  tell_done told (Some l) = tell told l

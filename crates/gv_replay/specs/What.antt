@@ -1,12 +1,12 @@
 -- What tokens say.
-use Rattle.std.specs.Prelude.{ℕ, Bool, true, false, ◌==◌, if◌then◌else◌, Option, Some, None, List, [], ◌∷◌, drop}
+use Rattle.std.specs.Prelude.{ℕ, Bool, not, ◌==◌, if◌then◌else◌, Option, Some, None, List, [], ◌∷◌, drop}
 use Rattle.gv_base.specs.declared.token.Kind.{Kind}
 use Rattle.gv_base.specs.declared.token.Kind.TheVariants as kind
-use Rattle.gv_lex.specs.Numbers.{has_prefix}
+use Rattle.gv_termread.specs.Numbers.{has_prefix, number_value}
+use Rattle.gv_text.specs.Digits.{up_to, largest_word}
 use Rattle.gv_replay.specs.declared.what.What.{What}
 use Rattle.gv_replay.specs.declared.what.What.TheVariants as what
 use Rattle.gv_replay.specs.Literals.{bytes_of}
-use Rattle.gv_replay.specs.Numbers.{fitting, value_of}
 
 abbrev pub sized : Bool → Option ℕ → What
 sized decimal (Some n) = what.Number decimal n
@@ -14,7 +14,7 @@ sized decimal None = what.Large
 
 -- decimal digits, or `0x` and hexadecimal ones
 abbrev pub number_of : List ℕ → What
-number_of bytes = if has_prefix bytes then sized false (fitting (value_of 16 (drop 2 bytes))) else sized true (fitting (value_of 10 bytes))
+number_of bytes = sized (not (has_prefix bytes)) (up_to largest_word (number_value bytes))
 
 abbrev pub one_or_more : List ℕ → What
 one_or_more [] = what.Bytes []

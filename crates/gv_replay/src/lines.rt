@@ -28,11 +28,11 @@ pub fn stepped(
     ensures { IfOk result (λ s. s ≡ spec.stepped kind current sight) }
 {
     let Some(part) = current else {
-        return Ok(begun(kind, None, sight));
+        return Ok(begun(alloc, kind, None, sight));
     };
     if sight.starts {
         return Ok(match line_of(alloc, part)? {
-            Some(line) => turned(kind, line, sight),
+            Some(line) => turned(alloc, kind, line, sight),
             None => None,
         });
     }
@@ -42,20 +42,20 @@ pub fn stepped(
     }
 }
 
-fn begun(kind: TextKind, done: Option<Line>, sight: Sight) -> Option<Step>
+fn begun(alloc: Global, kind: TextKind, done: Option<Line>, sight: Sight) -> Option<Step>
     ensures { result ≡ spec.begun kind done sight }
 {
-    match first(kind, sight) {
+    match first(alloc, kind, sight) {
         Some(part) => Some(Step { done, part }),
         None => None,
     }
 }
 
-fn turned(kind: TextKind, line: Line, sight: Sight) -> Option<Step>
+fn turned(alloc: Global, kind: TextKind, line: Line, sight: Sight) -> Option<Step>
     ensures { result ≡ spec.turned kind line sight }
 {
     match line {
         Line::End => None,
-        _ => begun(kind, Some(line), sight),
+        _ => begun(alloc, kind, Some(line), sight),
     }
 }

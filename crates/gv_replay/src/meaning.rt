@@ -1,17 +1,18 @@
 //! What lines mean under a specification.
 
-ghost use Rattle.std.specs.Prelude.{◌≡◌, ◌∷◌, [], ◌++◌, Ok, slice_get, IfOk, IfErr, OnOk};
+ghost use Rattle.std.specs.Prelude.{◌≡◌, ◌∷◌, [], ◌++◌, Ok, ◌≤◌, ◌^◌, IfOk, IfErr, OnOk};
 ghost use Rattle.gv_replay.specs.Meaning as meaning;
 ghost use Rattle.gv_replay.specs.OperationTable.{IsTableOf};
-ghost use Rattle.gv_replay.specs.Stops.{StopsAs};
+ghost use Rattle.gv_text.specs.Stops.{StopsAs};
 
 use crate::argument::{Argument, Number, Written};
 use crate::line::{CallLine, Line};
 use crate::operations::Operations;
+use gv_atomic::Spec;
 use gv_base::{Code, List, Name, NoMemory};
 use gv_spec::{Entry, Move};
-use gv_terms::{Sort, Spec, Value, Var};
-use gv_tokens::Stop;
+use gv_terms::{Sort, Value, Var, copy_list};
+use gv_text::Stop;
 use std::alloc::Global;
 
 // How often a byte stands in a literal at most.
@@ -37,26 +38,39 @@ pub fn move_in(
             let entry = answer_entry(alloc, *number, reply)?;
             Ok(Some(Move::Other(entry)))
         }
-        Line::Act { number } => {
-            let number = call_number(*number)?;
-            Ok(Some(Move::Act { number }))
+        Line::Act { number, choices } => {
+            let number = narrow(*number)?;
+            let choices = copy_list(alloc, choices)?;
+            Ok(Some(Move::Act { number, choices }))
         }
-        Line::Crash => Ok(Some(Move::Other(Entry::Crash))),
-        Line::Boot => Ok(Some(Move::Other(Entry::Boot))),
-        Line::End => Ok(None),
+        Line::Crash { .. } => Ok(Some(Move::Other(Entry::Crash))),
+        Line::Boot { choices } => {
+            let choices = copy_list(alloc, choices)?;
+            Ok(Some(Move::Boot { choices }))
+        }
+        Line::End | Line::Step { .. } | Line::Fail { .. } | Line::Grow { .. } => Ok(None),
     }
 }
 
-// The number of a call, which is below 2^32.
-fn call_number(number: Number) -> Result<u32, Stop>
-    ensures ok { IfOk result (λ n. meaning.call_number number ≡ Ok n) }
-    ensures err { IfErr result (StopsAs (meaning.call_number number)) }
+/// A number below a bound of 2^32 at most.
+pub fn bounded(bound: u64, number: Number) -> Result<u32, Stop>
+    requires { bound ≤ 2 ^ 32 }
+    ensures ok { IfOk result (λ n. meaning.bounded bound number ≡ Ok n) }
+    ensures err { IfErr result (StopsAs (meaning.bounded bound number)) }
 {
-    if number.value < 1 << 32 {
+    if number.value < bound {
         Ok(number.value as u32)
     } else {
         Err(Stop::At(number.at, Code::TooMany))
     }
+}
+
+/// The number of a call or of a thread, which is below 2^32.
+pub fn narrow(number: Number) -> Result<u32, Stop>
+    ensures ok { IfOk result (λ n. meaning.narrow number ≡ Ok n) }
+    ensures err { IfErr result (StopsAs (meaning.narrow number)) }
+{
+    bounded(1 << 32, number)
 }
 
 // How often a byte stands in a literal.
@@ -143,17 +157,49 @@ fn values_for(alloc: Global, params: &[Var], args: &[Argument]) -> Result<List<V
     Ok(List::from_vec(values))
 }
 
-// A call of an operation with these parameters.
-fn call_of(alloc: Global, call: &CallLine, op: u32, params: &[Var]) -> Result<Entry, Stop>
-    ensures ok { IfOk result (λ e. meaning.call_of call.now op params.now ≡ Ok e) }
-    ensures err { IfErr result (StopsAs (meaning.call_of call.now op params.now)) }
+/// Whether a call has as many arguments as its operation has parameters, where there is such an operation.
+pub fn arity(spec: &Spec, table: &Operations, call: &CallLine) -> Result<(), Stop>
+    requires { IsTableOf spec.now.ops table.now }
+    ensures ok { IfOk result (λ x. meaning.arity spec.now call.now ≡ Ok x) }
+    ensures err { IfErr result (StopsAs (meaning.arity spec.now call.now)) }
 {
-    if params.len() != call.args.len() {
-        return Err(Stop::At(call.at, Code::WrongCount));
+    match table.number_of(&call.op) {
+        Some(op) if params_of(spec, op).len() != call.args.len() => {
+            Err(Stop::At(call.at, Code::WrongCount))
+        }
+        _ => Ok(()),
     }
-    let number = call_number(call.number)?;
-    let args = values_for(alloc, params, call.args.as_slice())?;
-    Ok(Entry::Call { number, op, args })
+}
+
+/// The operation of a call and its arguments.
+pub fn called(
+    alloc: Global,
+    spec: &Spec,
+    table: &Operations,
+    call: &CallLine,
+) -> Result<(u32, List<Value>), Stop>
+    requires { IsTableOf spec.now.ops table.now }
+    ensures ok { IfOk result (λ o. meaning.called spec.now call.now ≡ Ok o) }
+    ensures err { IfErr result (StopsAs (meaning.called spec.now call.now)) }
+{
+    match table.number_of(&call.op) {
+        Some(op) => Ok((
+            op,
+            values_for(alloc, params_of(spec, op), call.args.as_slice())?,
+        )),
+        None => Err(Stop::At(call.op_at, Code::Undeclared)),
+    }
+}
+
+// The number of a call, which is 0 where it has none.
+fn call_number(number: Option<Number>) -> Result<u32, Stop>
+    ensures ok { IfOk result (λ n. meaning.call_number number ≡ Ok n) }
+    ensures err { IfErr result (StopsAs (meaning.call_number number)) }
+{
+    match number {
+        Some(number) => narrow(number),
+        None => Ok(0),
+    }
 }
 
 // A call. Its number of arguments is tested first, as the word `call` stands before all of its parts.
@@ -167,17 +213,14 @@ fn call_entry(
     ensures ok { IfOk result (λ e. meaning.call_entry spec.now call.now ≡ Ok e) }
     ensures err { IfErr result (StopsAs (meaning.call_entry spec.now call.now)) }
 {
-    match table.number_of(&call.op) {
-        Some(op) => call_of(alloc, call, op, params_of(spec, op)),
-        None => {
-            call_number(call.number)?;
-            Err(Stop::At(call.op_at, Code::Undeclared))
-        }
-    }
+    arity(spec, table, call)?;
+    let number = call_number(call.number)?;
+    let (op, args) = called(alloc, spec, table, call)?;
+    Ok(Entry::Call { number, op, args })
 }
 
 fn params_of(spec: &Spec, op: u32) -> &[Var]
-    ensures { result.now ≡ meaning.params_of (slice_get spec.now.ops op) }
+    ensures { result.now ≡ meaning.params_at spec.now op }
 {
     match spec.ops.get(op as usize) {
         Some(operation) => operation.params.as_slice(),
@@ -200,7 +243,7 @@ fn answer_entry(alloc: Global, number: Number, reply: &Option<Argument>) -> Resu
     ensures ok { IfOk result (λ e. meaning.answer_entry number reply.now ≡ Ok e) }
     ensures err { IfErr result (StopsAs (meaning.answer_entry number reply.now)) }
 {
-    let number = call_number(number)?;
+    let number = narrow(number)?;
     let reply = reply_of(alloc, reply)?;
     Ok(Entry::Answer { number, reply })
 }

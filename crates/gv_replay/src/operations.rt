@@ -3,8 +3,8 @@
 ghost use Rattle.std.specs.Prelude.{◌≡◌, IfOk};
 ghost use Rattle.gv_replay.specs.OperationTable.{IsTableOf, number_in};
 
+use gv_atomic::Spec;
 use gv_base::{Name, NoMemory};
-use gv_terms::Spec;
 use std::alloc::Global;
 use std::collections::HashMap;
 

@@ -2,6 +2,8 @@
 
 ghost use Rattle.std.specs.Prelude.{◌≡◌, IfOk};
 ghost use Rattle.gv_replay.specs.Parts as spec;
+ghost use Rattle.gv_replay.specs.declared.line.TextKind.TheVariants as text_kind;
+ghost use Rattle.gv_replay.specs.declared.part.Part.TheVariants as part;
 
 use crate::argument::{Argument, Number, Written};
 use crate::line::{CallLine, Line, TextKind};
@@ -26,8 +28,12 @@ pub enum Part {
     Answer,
     /// `act`.
     Act,
-    /// `call K`.
-    Numbered { at: u32, number: Number },
+    /// `act K` and choices.
+    Acting { number: Number, choices: List<u64> },
+    /// `boot` and choices.
+    Booting { choices: List<u64> },
+    /// `call K`, or `call` in a schedule.
+    Numbered { at: u32, number: Option<Number> },
     /// `call K OP` and arguments.
     Arguments(CallLine),
     /// The same, and a byte as the last argument.
@@ -40,6 +46,16 @@ pub enum Part {
     ReplyByte { number: Number, last: OneByte },
     /// `answer K`, a byte and `*`.
     ReplyStar { number: Number, last: OneByte },
+    /// `step`, at this byte.
+    Step { at: u32 },
+    /// `step T`.
+    Stepping { at: u32, thread: Number },
+    /// `fail`, at this byte.
+    Fail { at: u32 },
+    /// `grow`, at this byte.
+    Grow { at: u32 },
+    /// `grow T`.
+    Growing { at: u32, thread: Number },
     /// A line to which nothing may be added.
     Whole(Line),
 }
@@ -51,7 +67,9 @@ pub fn next(alloc: Global, part: Part, sight: Sight) -> Result<Option<Part>, NoM
     match part {
         Part::Call { at } => Ok(numbered(at, sight)),
         Part::Answer => Ok(replying(sight)),
-        Part::Act => Ok(acting(sight)),
+        Part::Act => Ok(acting(alloc, sight)),
+        Part::Acting { number, choices } => acted(number, choices, sight),
+        Part::Booting { choices } => booted(choices, sight),
         Part::Numbered { at, number } => Ok(named(alloc, at, number, sight)),
         Part::Arguments(call) => argument(call, sight),
         Part::ArgumentByte { call, last } => behind_byte(alloc, call, last, sight),
@@ -59,6 +77,11 @@ pub fn next(alloc: Global, part: Part, sight: Sight) -> Result<Option<Part>, NoM
         Part::Replying { number } => Ok(reply(number, sight)),
         Part::ReplyByte { number, last } => Ok(starred(number, last, sight)),
         Part::ReplyStar { number, last } => Ok(repeated_reply(number, last, sight)),
+        Part::Step { at } => Ok(stepping(at, sight)),
+        Part::Stepping { at, thread } => Ok(counted(at, thread, sight)),
+        Part::Fail { at } => Ok(failing(at, sight)),
+        Part::Grow { at } => Ok(growing(at, sight)),
+        Part::Growing { at, thread } => Ok(grown(at, thread, sight)),
         Part::Whole(_) => Ok(None),
     }
 }
@@ -115,40 +138,86 @@ fn truth(word: &[u8]) -> Option<bool>
 }
 
 /// The front of a line that is its first token, where it may be.
-pub fn first(kind: TextKind, sight: Sight) -> Option<Part>
+pub fn first(alloc: Global, kind: TextKind, sight: Sight) -> Option<Part>
     ensures { result ≡ spec.first kind sight }
 {
     let Sight { at, what, .. } = sight;
     match what {
-        What::Word(word) => first_word(kind, at, word.as_slice()),
+        What::Word(word) => first_word(alloc, kind, at, word.as_slice()),
         _ => None,
     }
 }
 
-fn first_word(kind: TextKind, at: u32, word: &[u8]) -> Option<Part>
+fn first_word(alloc: Global, kind: TextKind, at: u32, word: &[u8]) -> Option<Part>
     ensures { result ≡ spec.first_word kind at word.now }
 {
     if word == b"call".as_slice() {
-        Some(Part::Call { at })
-    } else if word == b"answer".as_slice() {
-        Some(Part::Answer)
+        Some(calling(kind, at))
     } else if word == b"crash".as_slice() {
-        Some(Part::Whole(Line::Crash))
-    } else if word == b"boot".as_slice() {
-        Some(Part::Whole(Line::Boot))
+        Some(Part::Whole(Line::Crash { at }))
     } else {
-        own_word(kind, word)
+        match kind {
+            TextKind::History => history_word(alloc, at, word),
+            TextKind::Moves => moves_word(alloc, at, word),
+            TextKind::Schedule => schedule_word(at, word),
+        }
     }
 }
 
-// The words that stand in texts of one kind.
-fn own_word(kind: TextKind, word: &[u8]) -> Option<Part>
-    ensures { result ≡ spec.own_word kind word.now }
+// `call`, behind which the name of the operation stands at once where calls have no numbers.
+fn calling(kind: TextKind, at: u32) -> Part
+    ensures { result ≡ spec.calling kind at }
 {
     match kind {
-        TextKind::History if word == b"end".as_slice() => Some(Part::Whole(Line::End)),
-        TextKind::Moves if word == b"act".as_slice() => Some(Part::Act),
-        _ => None,
+        TextKind::Schedule => Part::Numbered { at, number: None },
+        TextKind::History | TextKind::Moves => Part::Call { at },
+    }
+}
+
+// The words that stand in histories.
+fn history_word(alloc: Global, _at: u32, word: &[u8]) -> Option<Part>
+    ensures { result ≡ spec.own_word text_kind.History _at word.now }
+{
+    if word == b"answer".as_slice() {
+        Some(Part::Answer)
+    } else if word == b"boot".as_slice() {
+        let choices = List::new(alloc);
+        Some(Part::Whole(Line::Boot { choices }))
+    } else if word == b"end".as_slice() {
+        Some(Part::Whole(Line::End))
+    } else {
+        None
+    }
+}
+
+// The words that stand among moves.
+fn moves_word(alloc: Global, _at: u32, word: &[u8]) -> Option<Part>
+    ensures { result ≡ spec.own_word text_kind.Moves _at word.now }
+{
+    if word == b"answer".as_slice() {
+        Some(Part::Answer)
+    } else if word == b"boot".as_slice() {
+        let choices = List::new(alloc);
+        Some(Part::Booting { choices })
+    } else if word == b"act".as_slice() {
+        Some(Part::Act)
+    } else {
+        None
+    }
+}
+
+// The words that stand in schedules.
+fn schedule_word(at: u32, word: &[u8]) -> Option<Part>
+    ensures { result ≡ spec.own_word text_kind.Schedule at word.now }
+{
+    if word == b"step".as_slice() {
+        Some(Part::Step { at })
+    } else if word == b"fail".as_slice() {
+        Some(Part::Fail { at })
+    } else if word == b"grow".as_slice() {
+        Some(Part::Grow { at })
+    } else {
+        None
     }
 }
 
@@ -156,7 +225,10 @@ fn numbered(at: u32, sight: Sight) -> Option<Part>
     ensures { result ≡ spec.numbered at sight }
 {
     let number = number_of(&sight)?;
-    Some(Part::Numbered { at, number })
+    Some(Part::Numbered {
+        at,
+        number: Some(number),
+    })
 }
 
 fn replying(sight: Sight) -> Option<Part>
@@ -166,14 +238,87 @@ fn replying(sight: Sight) -> Option<Part>
     Some(Part::Replying { number })
 }
 
-fn acting(sight: Sight) -> Option<Part>
+fn acting(alloc: Global, sight: Sight) -> Option<Part>
     ensures { result ≡ spec.acting sight }
 {
     let number = number_of(&sight)?;
-    Some(Part::Whole(Line::Act { number }))
+    let choices = List::new(alloc);
+    Some(Part::Acting { number, choices })
 }
 
-fn named(alloc: Global, at: u32, number: Number, sight: Sight) -> Option<Part>
+// One more choice.
+fn more_choices(choices: List<u64>, number: Number) -> Result<List<u64>, NoMemory>
+    ensures { IfOk result (λ cs. cs ≡ spec.more_choices choices number) }
+{
+    let mut choices = choices;
+    choices.push(number.value)?;
+    Ok(choices)
+}
+
+fn acted(number: Number, choices: List<u64>, sight: Sight) -> Result<Option<Part>, NoMemory>
+    ensures { IfOk result (λ p. p ≡ spec.chosen (part.Acting number) choices sight) }
+{
+    match number_of(&sight) {
+        Some(choice) => {
+            let choices = more_choices(choices, choice)?;
+            Ok(Some(Part::Acting { number, choices }))
+        }
+        None => Ok(None),
+    }
+}
+
+fn booted(choices: List<u64>, sight: Sight) -> Result<Option<Part>, NoMemory>
+    ensures { IfOk result (λ p. p ≡ spec.chosen part.Booting choices sight) }
+{
+    match number_of(&sight) {
+        Some(choice) => {
+            let choices = more_choices(choices, choice)?;
+            Ok(Some(Part::Booting { choices }))
+        }
+        None => Ok(None),
+    }
+}
+
+fn stepping(at: u32, sight: Sight) -> Option<Part>
+    ensures { result ≡ spec.stepping at sight }
+{
+    let thread = number_of(&sight)?;
+    Some(Part::Stepping { at, thread })
+}
+
+fn counted(at: u32, thread: Number, sight: Sight) -> Option<Part>
+    ensures { result ≡ spec.counted at thread sight }
+{
+    let count = number_of(&sight)?;
+    Some(Part::Whole(Line::Step {
+        at,
+        thread,
+        count: Some(count),
+    }))
+}
+
+fn failing(at: u32, sight: Sight) -> Option<Part>
+    ensures { result ≡ spec.failing at sight }
+{
+    let disk = number_of(&sight)?;
+    Some(Part::Whole(Line::Fail { at, disk }))
+}
+
+fn growing(at: u32, sight: Sight) -> Option<Part>
+    ensures { result ≡ spec.growing at sight }
+{
+    let thread = number_of(&sight)?;
+    Some(Part::Growing { at, thread })
+}
+
+fn grown(at: u32, thread: Number, sight: Sight) -> Option<Part>
+    ensures { result ≡ spec.grown at thread sight }
+{
+    let extra = number_of(&sight)?;
+    Some(Part::Whole(Line::Grow { at, thread, extra }))
+}
+
+fn named(alloc: Global, at: u32, number: Option<Number>, sight: Sight) -> Option<Part>
     ensures { result ≡ spec.named at number sight }
 {
     let Sight {
@@ -349,6 +494,13 @@ pub fn line_of(alloc: Global, part: Part) -> Result<Option<Line>, NoMemory>
         Part::ReplyByte { number, last } => Ok(Some(Line::Answer {
             number,
             reply: Some(single(alloc, last)?),
+        })),
+        Part::Acting { number, choices } => Ok(Some(Line::Act { number, choices })),
+        Part::Booting { choices } => Ok(Some(Line::Boot { choices })),
+        Part::Stepping { at, thread } => Ok(Some(Line::Step {
+            at,
+            thread,
+            count: None,
         })),
         Part::Whole(line) => Ok(Some(line)),
         _ => Ok(None),

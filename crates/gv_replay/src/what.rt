@@ -1,11 +1,12 @@
 //! What the tokens of a text of lines say.
 
-ghost use Rattle.std.specs.Prelude.{◌≡◌, IfOk};
+ghost use Rattle.std.specs.Prelude.{◌≡◌, IfOk, not};
+ghost use Rattle.gv_termread.specs.Numbers.{has_prefix};
 ghost use Rattle.gv_replay.specs.What as spec;
 
 use crate::literal::bytes_of;
-use crate::number::value_of;
 use gv_base::{Kind, Name, NoMemory};
+use gv_lex::number_of;
 use std::alloc::Global;
 
 /// What a token says, as far as lines tell tokens apart. This project's own.
@@ -40,9 +41,15 @@ pub fn what_of(alloc: Global, kind: Kind, bytes: &[u8]) -> Result<What, NoMemory
 fn number(bytes: &[u8]) -> What
     ensures { result ≡ spec.number_of bytes.now }
 {
+    sized(is_decimal(bytes), number_of(bytes))
+}
+
+fn is_decimal(bytes: &[u8]) -> bool
+    ensures { result ≡ not (has_prefix bytes.now) }
+{
     match bytes {
-        [b'0', b'x', digits @ ..] => sized(false, value_of(digits, 16)),
-        _ => sized(true, value_of(bytes, 10)),
+        [b'0', b'x', ..] => false,
+        _ => true,
     }
 }
 

@@ -4,8 +4,9 @@ use Rattle.std.proofs.lemmas.List.{take_more}
 use Rattle.gv_terms.specs.declared.tree.TermTree.{TermTree}
 use Rattle.gv_terms.specs.declared.value.Value.{Value}
 use Rattle.gv_terms.specs.declared.value.Env.{Env}
-use Rattle.gv_terms.specs.declared.spec.Assign.{Assign}
-use Rattle.gv_terms.specs.Specification.{bound, assigned, term_value}
+use Rattle.gv_atomic.specs.declared.spec.Assign.{Assign}
+use Rattle.gv_atomic.specs.Specification.{assigned}
+use Rattle.gv_atomic.specs.Choices.{bound, term_value}
 
 pub bound_none : (ns : List (List ℕ)) → bound ns [] ≡ []
 bound_none [] = refl

@@ -1,5 +1,5 @@
 -- A machine each of whose calls returns in one step, as its specification's operation does at once,
--- refines the specification, crashes included.
+-- refines the specification, crashes included. The specification chooses nothing.
 use Rattle.std.proofs.Common.{◌≡◌, ◌≢◌, ℕ, zero, suc, ◌<◌, ◌≤◌, ◌⊎◌, Bool, true, false, List, [], ◌∷◌, ◌++◌, length, map, fold, slice_get, slice_set, Option, Some, None, Result, Ok, Err, refl, sym, ap, subst, ◌∙◌, inl, inr, arith, append-nil}
 use Rattle.gv_base.specs.declared.reason.Reason.{Reason}
 use Rattle.gv_spec.specs.Event as event
@@ -8,11 +8,14 @@ use Rattle.gv_spec.specs.Move as move
 use Rattle.gv_spec.specs.Event.{Event}
 use Rattle.gv_spec.specs.Entry.{Entry}
 use Rattle.gv_spec.specs.Move.{Move}
-use Rattle.gv_spec.specs.Machine.{Answer, Next, Blocked, Stepped, GoesOn, Returns, Machine}
+use Rattle.gv_base.specs.declared.answer.Answer.{Answer}
+use Rattle.gv_base.specs.declared.answer.Answer.TheVariants.{Next, Blocked}
+use Rattle.gv_spec.specs.Machine.{Stepped, GoesOn, Returns, Machine}
 use Rattle.gv_spec.specs.Specification.{Specification}
 use Rattle.gv_spec.specs.Runs.{Role, Recovers, Answers, Spawned, RunState, living, call_started, thread_ended, booted, answered, disk_failed, unless_undefined, settled, first_state, crash_made, step_taken, step_made, call_made, event_made, after, history_of}
 use Rattle.gv_spec.specs.Walks.{NeverCalled, Called, Acted, Answered, WalkState, entered, dropped, first_walk, walk_moved, walk_from}
 use Rattle.gv_spec.specs.Refines.{Refines}
+use Rattle.gv_spec.specs.Plain.{Plain, IsPlain}
 use Rattle.gv_spec.proofs.Threads.{set_cases, push_cases, none_stands, stands, some_same}
 use Rattle.gv_spec.proofs.Moves.{moves_of, entries_moves, entered_same, entered_other, more_moves}
 
@@ -42,7 +45,8 @@ not_booted : {R : Type 0} (o : Option R) (r : R) → o ≡ None → o ≡ Some r
 not_booted o r e f = cc
 
 -- what Fits says of a world and of the fields, Recovering of a thread that runs the recovery
-module _ {W T R F V : Type 0} (machine : Machine W T R V) (atomic : Specification F V) (Fits : W → F → Type 0) (Recovering : T → Type 0) where
+module _ {W T R F V : Type 0} (machine : Machine W T R V) (atomic : Specification F V) (plain : Plain F V) (is : IsPlain atomic plain)
+    (Fits : W → F → Type 0) (Recovering : T → Type 0) where
   -- a step of the recovery leaves the fields as they fit
   pub data RecoveryStep (f : F) : Answer (Stepped W T R) → Type 0 where
     recovery_waits : RecoveryStep f Blocked
@@ -52,25 +56,25 @@ module _ {W T R F V : Type 0} (machine : Machine W T R V) (atomic : Specificatio
   -- a step of a call returns the operation's reply, and leaves its fields
   pub data CallStep (op : ℕ) (args : List V) (f : F) : Answer (Stepped W T R) → Type 0 where
     call_waits : CallStep op args f Blocked
-    call_returns : (w : W) (r : R) → Fits w (atomic.applied op args f).0 → machine.reply r w ≡ Ok (atomic.applied op args f).1 → CallStep op args f (Next (Returns w r))
+    call_returns : (w : W) (r : R) → Fits w (plain.applied op args f).0 → machine.reply r w ≡ Ok (plain.applied op args f).1 → CallStep op args f (Next (Returns w r))
 
   -- a thread that answers a call so, wherever it takes its step
   abbrev pub Calling : ℕ → List V → T → Type 0
-  Calling op args t = (w : W) (f : F) → Fits w f → CallStep op args f (machine.stepped t w)
+  Calling op args t = (extra : ℕ) (w : W) (f : F) → Fits w f → CallStep op args f (machine.stepped extra t w)
 
   pub record AnswersAtOnce : Type 0 where
-    pub starts : Fits machine.first_world (atomic.crashed atomic.first_fields)
+    pub starts : Fits machine.first_world (plain.crashed atomic.first_fields)
     pub recovers : Recovering machine.recovery
-    pub recovery_steps : (t : T) (w : W) (f : F) → Recovering t → Fits w f → RecoveryStep f (machine.stepped t w)
+    pub recovery_steps : (extra : ℕ) (t : T) (w : W) (f : F) → Recovering t → Fits w f → RecoveryStep f (machine.stepped extra t w)
     pub calls : (r : R) (op : ℕ) (args : List V) (w : W) (f : F) (v : W) (t : T) → machine.called r op args w ≡ Some (v, t) → Fits w f → Fits v f
     pub call_steps : (r : R) (op : ℕ) (args : List V) (w : W) (v : W) (t : T) → machine.called r op args w ≡ Some (v, t) → Calling op args t
-    pub crashes : (w : W) (f : F) → Fits w f → Fits (machine.crashed w) (atomic.crashed f)
-    pub crashes_again : (w : W) (f : F) → Fits w (atomic.crashed f) → Fits (machine.crashed w) (atomic.crashed f)
+    pub crashes : (w : W) (f : F) → Fits w f → Fits (machine.crashed w) (plain.crashed f)
+    pub crashes_again : (w : W) (f : F) → Fits w (plain.crashed f) → Fits (machine.crashed w) (plain.crashed f)
     pub fails : (disk : ℕ) (w : W) (f : F) (v : W) → machine.failed disk w ≡ Some v → Fits w f → Fits v f
 
   -- until it boots the world fits the fields that the boot will leave
   fields_now : Option R → F → F
-  fields_now None f = atomic.crashed f
+  fields_now None f = plain.crashed f
   fields_now (Some r) f = f
 
   abbrev There : List (Option (Role × T)) → ℕ → Role → T → Type 0
@@ -191,13 +195,13 @@ module _ {W T R F V : Type 0} (machine : Machine W T R V) (atomic : Specificatio
         only k x e = elim (was k Recovers x e) [ inl p ↦ p.0 | inr p ↦ v.alone k i x t p.1 place ]
 
     -- the recovery returns
-    inv_boot : (s : RunState W T R V) (i : ℕ) (t : T) (w : W) (r : R) → There s.threads i Recovers t → (v : Inv s) → Fits w (atomic.crashed v.now.fields)
+    inv_boot : (s : RunState W T R V) (i : ℕ) (t : T) (w : W) (r : R) → There s.threads i Recovers t → (v : Inv s) → Fits w (plain.crashed v.now.fields)
         → Inv (settled s (step_taken machine s (suc i) Recovers (Next (Returns w r))))
     unfolding fields_now
     inv_boot s i t w r place v fit = record {
       defined = v.defined;
-      now = record { fields = atomic.crashed v.now.fields; table = λ n. dropped (v.now.table n) };
-      walked = more_moves atomic (first_walk atomic) v.now s.history (entry.Boot ∷ []) v.walked;
+      now = record { fields = plain.crashed v.now.fields; table = λ n. dropped (v.now.table n) };
+      walked = more_moves atomic (first_walk atomic) v.now s.history (entry.Boot ∷ []) v.walked ∙ rw (is.crashed [] v.now.fields) refl;
       fits = fit;
       fresh = λ n h. ap dropped (v.fresh n h);
       answering = λ k n x e. absurd (no_call k n x e);
@@ -215,16 +219,16 @@ module _ {W T R F V : Type 0} (machine : Machine W T R V) (atomic : Specificatio
 
     -- a call answers: it acts just before
     inv_answer : (s : RunState W T R V) (i n : ℕ) (t : T) (op : ℕ) (args : List V) (w : W) (o : Result V Reason) → There s.threads i (Answers n) t → (v : Inv s)
-        → v.now.table n ≡ Called op args → n ≤ s.calls → Fits w (fields_now s.receiver (atomic.applied op args v.now.fields).0)
-        → o ≡ Ok (atomic.applied op args v.now.fields).1
+        → v.now.table n ≡ Called op args → n ≤ s.calls → Fits w (fields_now s.receiver (plain.applied op args v.now.fields).0)
+        → o ≡ Ok (plain.applied op args v.now.fields).1
         → Inv (settled s (answered (thread_ended s (suc i) w) n o))
     inv_answer s i n t op args w (Err reason) place v stood below fit e = absurd cc
     inv_answer s i n t op args w (Ok reply) place v stood below fit e =
-        let kept = (atomic.applied op args v.now.fields).1 in
+        let kept = (plain.applied op args v.now.fields).1 in
         let same : reply ≡ kept = cc in
-        let acted : WalkState F V = record { fields = (atomic.applied op args v.now.fields).0; table = entered v.now.table n (Acted kept) } in
-        let gone : WalkState F V = record { fields = (atomic.applied op args v.now.fields).0; table = entered acted.table n Answered } in
-        let acts : walk_moved atomic v.now (move.Act n) ≡ Ok acted = rw stood refl in
+        let acted : WalkState F V = record { fields = (plain.applied op args v.now.fields).0; table = entered v.now.table n (Acted kept) } in
+        let gone : WalkState F V = record { fields = (plain.applied op args v.now.fields).0; table = entered acted.table n Answered } in
+        let acts : walk_moved atomic v.now (move.Act n []) ≡ Ok acted = rw (stood, is.applied op args [] v.now.fields) refl in
         let answers : walk_moved atomic acted (move.Other (entry.Answer n reply)) ≡ Ok gone = rw (entered_same v.now.table n (Acted kept), (atomic.decides reply kept).1 same) refl in
         record {
           defined = v.defined;
@@ -259,7 +263,7 @@ module _ {W T R F V : Type 0} (machine : Machine W T R V) (atomic : Specificatio
       unspawned = λ k x e. not_both (new k Spawned x e).1;
     }
       where
-        fit : (o : Option R) → Fits s.world (fields_now o v.now.fields) → Fits (machine.crashed s.world) (atomic.crashed v.now.fields)
+        fit : (o : Option R) → Fits s.world (fields_now o v.now.fields) → Fits (machine.crashed s.world) (plain.crashed v.now.fields)
         fit None h = at_once.crashes_again s.world v.now.fields h
         fit (Some r) h = at_once.crashes s.world v.now.fields h
 
@@ -285,7 +289,7 @@ module _ {W T R F V : Type 0} (machine : Machine W T R V) (atomic : Specificatio
       unspawned = v.unspawned;
     }
 
-    inv_recovery_step : (s : RunState W T R V) (i : ℕ) (t : T) → There s.threads i Recovers t → (v : Inv s) → (a : Answer (Stepped W T R)) → RecoveryStep (atomic.crashed v.now.fields) a
+    inv_recovery_step : (s : RunState W T R V) (i : ℕ) (t : T) → There s.threads i Recovers t → (v : Inv s) → (a : Answer (Stepped W T R)) → RecoveryStep (plain.crashed v.now.fields) a
         → Inv (settled s (step_taken machine s (suc i) Recovers a))
     unfolding fields_now
     inv_recovery_step s i t place v a recovery_waits = v
@@ -299,20 +303,20 @@ module _ {W T R F V : Type 0} (machine : Machine W T R V) (atomic : Specificatio
     unfolding fields_now
     inv_call_step s i n t op args r place v stood below booted a call_waits = v
     inv_call_step s i n t op args r place v stood below booted a (call_returns w result fit e) =
-        inv_answer s i n t op args w (machine.reply result w) place v stood below (subst (λ o. Fits w (fields_now o (atomic.applied op args v.now.fields).0)) (sym booted) fit) e
+        inv_answer s i n t op args w (machine.reply result w) place v stood below (subst (λ o. Fits w (fields_now o (plain.applied op args v.now.fields).0)) (sym booted) fit) e
 
-    inv_step : (s : RunState W T R V) (i : ℕ) (o : Option (Role × T)) → living s.threads (suc i) ≡ o → Inv s → Inv (settled s (step_made machine s (suc i) o))
+    inv_step : (s : RunState W T R V) (i extra : ℕ) (o : Option (Role × T)) → living s.threads (suc i) ≡ o → Inv s → Inv (settled s (step_made machine s (suc i) extra o))
     unfolding fields_now
-    inv_step s i None e v = v
-    inv_step s i (Some (Recovers, t)) e v =
+    inv_step s i extra None e v = v
+    inv_step s i extra (Some (Recovers, t)) e v =
         let place : There s.threads i Recovers t = stands (slice_get s.threads i) (Recovers, t) e in
         let q = v.recovering i t place in
-        inv_recovery_step s i t place v (machine.stepped t s.world) (at_once.recovery_steps t s.world (atomic.crashed v.now.fields) q.1 (subst (λ o. Fits s.world (fields_now o v.now.fields)) q.0 v.fits))
-    inv_step s i (Some (Answers n, t)) e v =
+        inv_recovery_step s i t place v (machine.stepped extra t s.world) (at_once.recovery_steps extra t s.world (plain.crashed v.now.fields) q.1 (subst (λ o. Fits s.world (fields_now o v.now.fields)) q.0 v.fits))
+    inv_step s i extra (Some (Answers n, t)) e v =
         let place : There s.threads i (Answers n) t = stands (slice_get s.threads i) (Answers n, t) e in
         let q = v.answering i n t place in
-        inv_call_step s i n t q.0 q.1 q.2 place v q.3 q.4 q.5 (machine.stepped t s.world) (q.6 s.world v.now.fields (subst (λ o. Fits s.world (fields_now o v.now.fields)) q.5 v.fits))
-    inv_step s i (Some (Spawned, t)) e v = absurd (v.unspawned i t (stands (slice_get s.threads i) (Spawned, t) e))
+        inv_call_step s i n t q.0 q.1 q.2 place v q.3 q.4 q.5 (machine.stepped extra t s.world) (q.6 extra s.world v.now.fields (subst (λ o. Fits s.world (fields_now o v.now.fields)) q.5 v.fits))
+    inv_step s i extra (Some (Spawned, t)) e v = absurd (v.unspawned i t (stands (slice_get s.threads i) (Spawned, t) e))
 
     inv_event : (s : RunState W T R V) (e : Event V) → Inv s → Inv (settled s (event_made machine atomic.allows s e))
     inv_event s (event.Call op args) v = go s.receiver refl (atomic.allows op args)
@@ -325,8 +329,8 @@ module _ {W T R F V : Type 0} (machine : Machine W T R V) (atomic : Specificatio
         go None e b = v
         go (Some r) e false = v
         go (Some r) e true = start r e (machine.called r op args s.world) refl
-    inv_event s (event.Step zero) v = v
-    inv_event s (event.Step (suc i)) v = inv_step s i (living s.threads (suc i)) refl v
+    inv_event s (event.Step zero extra) v = v
+    inv_event s (event.Step (suc i) extra) v = inv_step s i extra (living s.threads (suc i)) refl v
     inv_event s event.Crash v = inv_crash s v
     inv_event s (event.Fail disk) v = inv_fail s disk (machine.failed disk s.world) refl v
 

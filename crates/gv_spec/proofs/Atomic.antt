@@ -3,24 +3,27 @@ use Rattle.std.proofs.Common.{◌≡◌, ◌≢◌, ℕ, zero, suc, ◌<◌, Boo
 use Rattle.std.specs.Prelude.{not, nat_eq, nat_lt, is_some, slice_get, IsTrue}
 use Rattle.std.specs.List.{find, list_all}
 use Rattle.std.proofs.lemmas.List.{length-set}
+use Rattle.std.proofs.lemmas.Option.{same_Some}
 use Rattle.gv_terms.specs.declared.sort.Sort.{Sort}
 use Rattle.gv_terms.specs.declared.tree.TermTree.{TermTree}
 use Rattle.gv_terms.specs.declared.term.Term.{Term}
 use Rattle.gv_terms.specs.declared.value.Value.{Value}
 use Rattle.gv_terms.specs.declared.value.Env.{Env}
-use Rattle.gv_terms.specs.declared.spec.Var.{Var}
-use Rattle.gv_terms.specs.declared.spec.Field.{Field}
-use Rattle.gv_terms.specs.declared.spec.Assign.{Assign}
-use Rattle.gv_terms.specs.declared.spec.Op.{Op}
-use Rattle.gv_terms.specs.declared.spec.Spec.{Spec}
+use Rattle.gv_terms.specs.declared.var.Var.{Var}
+use Rattle.gv_atomic.specs.declared.spec.Field.{Field}
+use Rattle.gv_atomic.specs.declared.spec.Assign.{Assign}
+use Rattle.gv_atomic.specs.declared.spec.Op.{Op}
+use Rattle.gv_atomic.specs.declared.spec.Spec.{Spec}
 use Rattle.gv_terms.specs.Values.{has_sort, is_sort, sort_of_value}
 use Rattle.gv_terms.specs.Trees.{sort_of}
 use Rattle.gv_terms.specs.Store.{tree_at}
-use Rattle.gv_terms.specs.Typed.{is_term, is_field, is_field_sort, is_assigned, is_assign, is_body, is_reply, is_some_plain, is_closed, is_op, is_plain, are_distinct, are_disks, are_names, names_of, var_of}
-use Rattle.gv_terms.specs.declared.sort.Sort.TheVariants as sort
-use Rattle.gv_terms.specs.Specification.{term_value, reply_value, assigned, binds, fields_bound, op_env, first_fields, crashed}
+use Rattle.gv_terms.specs.Scopes.{is_closed}
+use Rattle.gv_atomic.specs.Typed.{is_term, is_field, is_field_sort, is_assigned, is_assign, is_body, is_reply, is_some_plain, is_op, are_distinct, var_of, with_picks}
+use Rattle.gv_atomic.specs.Choices.{term_value, binds}
+use Rattle.gv_atomic.proofs.TypedFacts.{ops_pass, fields_pass, crash_typed, chosen_body, op_body, op_reply}
+use Rattle.gv_atomic.specs.Specification.{reply_value, assigned, op_env, first_fields, crash_env, crash_fields, crash_chooses, crashed}
 use Rattle.gv_terms.proofs.ValueSorts.{values_have_sorts}
-use Rattle.gv_spec.specs.Meaning.{fields_after, op_fields_or, reply_of, op_reply_or}
+use Rattle.gv_spec.specs.Meaning.{chooses, fields_after, op_fields_or, reply_of, op_reply_or, applied}
 use Rattle.gv_spec.specs.Atomic.{are_of, field_vars, term_sort, reply_sort, reply_sort_of, own_value, EachItsOwn, EachOfOp, EachOfCrash}
 
 -- Tests.
@@ -166,60 +169,59 @@ module _ (ts : List TermTree) (env : Env) where
 
 -- Specifications.
 
-parts_of_six : (a b c d e f : Bool) → (a && (b && (c && (d && (e && f))))) ≡ true → (b ≡ true) × (e ≡ true) × (f ≡ true)
-parts_of_six true true true true true true h = (refl, refl, refl)
-parts_of_six false b c d e f h = absurd cc
-parts_of_six true false c d e f h = absurd cc
-parts_of_six true true false d e f h = absurd cc
-parts_of_six true true true false e f h = absurd cc
-parts_of_six true true true true false f h = absurd cc
-parts_of_six true true true true true false h = absurd cc
-
-last_two_of_five : (a b c d e : Bool) → (a && (b && (c && (d && e)))) ≡ true → (d ≡ true) × (e ≡ true)
-last_two_of_five true true true true true h = (refl, refl)
-last_two_of_five false b c d e h = absurd cc
-last_two_of_five true false c d e h = absurd cc
-last_two_of_five true true false d e h = absurd cc
-last_two_of_five true true true false e h = absurd cc
-last_two_of_five true true true true false h = absurd cc
-
 module _ (s : Spec) where
-  typed_parts : (list_all (is_field s.store) s.fields ≡ true) × (list_all (is_op s.store (field_vars s)) s.ops ≡ true) × (is_body s.store (field_vars s) (field_vars s) s.crash ≡ true)
-  typed_parts =
-      parts_of_six (are_disks s.disks s.blocks) (list_all (is_field s.store) s.fields) (are_names (names_of (field_vars s))) (are_names (map (λ o. o.name) s.ops))
-      (list_all (is_op s.store (field_vars s)) s.ops) (is_body s.store (field_vars s) (field_vars s) s.crash) s.typed
+  op_typed : (op : ℕ) (o : Op) → slice_get s.ops op ≡ Some o → is_op s.store (field_vars s) o ≡ true
+  op_typed op o e = all_at (is_op s.store (field_vars s)) s.ops op o (ops_pass s.disks s.blocks s.fields s.ops s.crash_picks s.crash s.store s.typed) e
 
-  op_parts : (op : ℕ) (o : Op) → slice_get s.ops op ≡ Some o
-      → (is_body s.store (field_vars s) (field_vars s ++ o.params) o.body ≡ true) × (is_reply s.store (field_vars s ++ o.params) o.reply ≡ true)
-  op_parts op o e =
-      last_two_of_five (list_all (λ v. is_plain v.sort) o.params) (are_names (names_of (field_vars s ++ o.params))) (is_term s.store o.params sort.Bool o.allowed)
-      (is_body s.store (field_vars s) (field_vars s ++ o.params) o.body) (is_reply s.store (field_vars s ++ o.params) o.reply)
-      (all_at (is_op s.store (field_vars s)) s.ops op o typed_parts.1 e)
+  op_body_typed : (op : ℕ) (o : Op) → slice_get s.ops op ≡ Some o → is_body s.store (field_vars s) (with_picks (field_vars s ++ o.params) o.picks) o.body ≡ true
+  op_body_typed op o e = chosen_body s.store (field_vars s) (field_vars s ++ o.params) o.picks o.body (op_body s.store (field_vars s) o (op_typed op o e))
+
+  crash_body_typed : is_body s.store (field_vars s) (with_picks (field_vars s) s.crash_picks) s.crash ≡ true
+  crash_body_typed = chosen_body s.store (field_vars s) (field_vars s) s.crash_picks s.crash (crash_typed s.disks s.blocks s.fields s.ops s.crash_picks s.crash s.store s.typed)
 
   pub first_sorts : IsTrue (are_of (field_vars s) (first_fields s))
-  first_sorts = fields_sorts s.store (binds []) s.fields typed_parts.0
+  first_sorts = fields_sorts s.store (binds []) s.fields (fields_pass s.disks s.blocks s.fields s.ops s.crash_picks s.crash s.store s.typed)
 
-  pub op_each : (op : ℕ) (args fields : List Value) → EachOfOp s op args fields (fields_after s op args fields)
-  op_each op args fields o e =
-      subst (λ q. EachItsOwn s.store (op_env s o args fields) o.body fields (op_fields_or s q args fields)) (sym e)
-      (each_its_own s.store (op_env s o args fields) (field_vars s) (field_vars s ++ o.params) o.body fields (op_parts op o e).0)
+  pub op_each : (op : ℕ) (args : List Value) (choices : List ℕ) (fields : List Value) → EachOfOp s op args choices fields (fields_after s op args choices fields)
+  op_each op args choices fields o e =
+      subst (λ q. EachItsOwn s.store (op_env s o args choices fields) o.body fields (op_fields_or s q args choices fields)) (sym e)
+      (each_its_own s.store (op_env s o args choices fields) (field_vars s) (with_picks (field_vars s ++ o.params) o.picks) o.body fields (op_body_typed op o e))
 
-  pub op_sorts : (op : ℕ) (args fields : List Value) → IsTrue (are_of (field_vars s) fields) → IsTrue (are_of (field_vars s) (fields_after s op args fields))
-  op_sorts op args fields g = at (slice_get s.ops op) refl
+  pub op_sorts : (op : ℕ) (args : List Value) (choices : List ℕ) (fields : List Value) → IsTrue (are_of (field_vars s) fields) → IsTrue (are_of (field_vars s) (fields_after s op args choices fields))
+  op_sorts op args choices fields g = at (slice_get s.ops op) refl
     where
-      at : (q : Option Op) → slice_get s.ops op ≡ q → IsTrue (are_of (field_vars s) (op_fields_or s q args fields))
+      at : (q : Option Op) → slice_get s.ops op ≡ q → IsTrue (are_of (field_vars s) (op_fields_or s q args choices fields))
       at None e = g
-      at (Some o) e = body_sorts s.store (op_env s o args fields) (field_vars s) (field_vars s ++ o.params) o.body fields (op_parts op o e).0 g
+      at (Some o) e = body_sorts s.store (op_env s o args choices fields) (field_vars s) (with_picks (field_vars s ++ o.params) o.picks) o.body fields (op_body_typed op o e) g
 
-  pub reply_sorts : (op : ℕ) (args fields : List Value) → sort_of_value (reply_of s op args fields) ≡ reply_sort s op
-  reply_sorts op args fields = at (slice_get s.ops op) refl
+  pub reply_sorts : (op : ℕ) (args : List Value) (choices : List ℕ) (fields : List Value) → sort_of_value (reply_of s op args choices fields) ≡ reply_sort s op
+  reply_sorts op args choices fields = at (slice_get s.ops op) refl
     where
-      at : (q : Option Op) → slice_get s.ops op ≡ q → sort_of_value (op_reply_or s q args fields) ≡ reply_sort_of s q
+      at : (q : Option Op) → slice_get s.ops op ≡ q → sort_of_value (op_reply_or s q args choices fields) ≡ reply_sort_of s q
       at None e = refl
-      at (Some o) e = reply_value_sort s.store (op_env s o args fields) (field_vars s ++ o.params) o.reply (op_parts op o e).1
+      at (Some o) e =
+          reply_value_sort s.store (op_env s o args choices fields) (with_picks (field_vars s ++ o.params) o.picks) o.reply (op_reply s.store (field_vars s) o (op_typed op o e))
 
-  pub crash_each : (fields : List Value) → EachOfCrash s fields (crashed s fields)
-  crash_each fields = each_its_own s.store (binds (fields_bound s.fields fields)) (field_vars s) (field_vars s) s.crash fields typed_parts.2
+  pub crash_each : (choices : List ℕ) (fields : List Value) → EachOfCrash s choices fields (crash_fields s choices fields)
+  crash_each choices fields = each_its_own s.store (crash_env s choices fields) (field_vars s) (with_picks (field_vars s) s.crash_picks) s.crash fields crash_body_typed
 
-  pub crash_sorts : (fields : List Value) → IsTrue (are_of (field_vars s) fields) → IsTrue (are_of (field_vars s) (crashed s fields))
-  crash_sorts fields g = body_sorts s.store (binds (fields_bound s.fields fields)) (field_vars s) (field_vars s) s.crash fields typed_parts.2 g
+  pub crash_sorts : (choices : List ℕ) (fields : List Value) → IsTrue (are_of (field_vars s) fields) → IsTrue (are_of (field_vars s) (crash_fields s choices fields))
+  crash_sorts choices fields g = body_sorts s.store (crash_env s choices fields) (field_vars s) (with_picks (field_vars s) s.crash_picks) s.crash fields crash_body_typed g
+
+  -- what is applied, and what a crash leaves, where it is allowed
+  pub applied_sorts : (op : ℕ) (args : List Value) (choices : List ℕ) (fields after : List Value) (reply : Value) → IsTrue (are_of (field_vars s) fields) → applied s op args choices fields ≡ Some (after, reply) → IsTrue (are_of (field_vars s) after)
+  applied_sorts op args choices fields after reply g = by (chooses s op args choices fields)
+    where
+      by : (b : Bool) → cond {A = Option (List Value × Value)} b (Some (fields_after s op args choices fields, reply_of s op args choices fields)) None ≡ Some (after, reply) → IsTrue (are_of (field_vars s) after)
+      by false e = absurd cc
+      by true e =
+          let found : List Value × Value = (fields_after s op args choices fields, reply_of s op args choices fields) in
+          let wanted : List Value × Value = (after, reply) in
+          subst (λ (vs : List Value). IsTrue (are_of (field_vars s) vs)) (ap (λ (z : List Value × Value). z.0) (same_Some found wanted e)) (op_sorts op args choices fields g)
+
+  pub crashed_sorts : (choices : List ℕ) (fields after : List Value) → IsTrue (are_of (field_vars s) fields) → crashed s choices fields ≡ Some after → IsTrue (are_of (field_vars s) after)
+  crashed_sorts choices fields after g = by (crash_chooses s choices fields)
+    where
+      by : (b : Bool) → cond b (Some (crash_fields s choices fields)) None ≡ Some after → IsTrue (are_of (field_vars s) after)
+      by false e = absurd cc
+      by true e = let same : crash_fields s choices fields ≡ after = cc in subst (λ (vs : List Value). IsTrue (are_of (field_vars s) vs)) same (crash_sorts choices fields g)

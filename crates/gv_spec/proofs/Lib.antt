@@ -2,6 +2,7 @@ pub mod Examples
 pub mod SpecLemmas
 pub mod Threads
 pub mod Moves
+pub mod PlainLaws
 pub mod AtOnce
 pub mod SmallRuns
 pub mod RunLaws
@@ -10,3 +11,5 @@ pub mod Assigned
 pub mod OneCall
 pub mod WalkFields
 pub mod Atomic
+pub mod WrongDefinitions
+pub mod Choosing

@@ -11,7 +11,7 @@ use Rattle.gv_spec.specs.Walks.{Standing, WalkState, WalkCause, entered, onward,
 abbrev pub moves_of : {V : Type 0} → List (Entry V) → List (Move V)
 moves_of [] = []
 moves_of (entry.Call n op args ∷ es) = move.Other (entry.Call n op args) ∷ moves_of es
-moves_of (entry.Answer n reply ∷ es) = move.Act n ∷ move.Other (entry.Answer n reply) ∷ moves_of es
+moves_of (entry.Answer n reply ∷ es) = move.Act n [] ∷ move.Other (entry.Answer n reply) ∷ moves_of es
 moves_of (entry.Crash ∷ es) = move.Other entry.Crash ∷ moves_of es
 moves_of (entry.Boot ∷ es) = move.Other entry.Boot ∷ moves_of es
 
@@ -25,7 +25,7 @@ entries_moves (entry.Boot ∷ es) = ap (λ x. entry.Boot ∷ x) (entries_moves e
 pub moves_append : {V : Type 0} (es fs : List (Entry V)) → moves_of (es ++ fs) ≡ moves_of es ++ moves_of fs
 moves_append [] fs = refl
 moves_append (entry.Call n op args ∷ es) fs = ap (λ x. move.Other (entry.Call n op args) ∷ x) (moves_append es fs)
-moves_append (entry.Answer n reply ∷ es) fs = ap (λ x. move.Act n ∷ move.Other (entry.Answer n reply) ∷ x) (moves_append es fs)
+moves_append (entry.Answer n reply ∷ es) fs = ap (λ x. move.Act n [] ∷ move.Other (entry.Answer n reply) ∷ x) (moves_append es fs)
 moves_append (entry.Crash ∷ es) fs = ap (λ x. move.Other entry.Crash ∷ x) (moves_append es fs)
 moves_append (entry.Boot ∷ es) fs = ap (λ x. move.Other entry.Boot ∷ x) (moves_append es fs)
 

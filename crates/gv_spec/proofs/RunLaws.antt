@@ -3,7 +3,9 @@ use Rattle.std.proofs.Common.{◌≡◌, ◌≢◌, ℕ, zero, suc, ◌≤◌, B
 use Rattle.gv_base.specs.declared.reason.Reason.{Reason}
 use Rattle.gv_spec.specs.Event as event
 use Rattle.gv_spec.specs.Event.{Event}
-use Rattle.gv_spec.specs.Machine.{Answer, Next, Blocked, Undefined, Stepped, GoesOn, Returns, Machine}
+use Rattle.gv_base.specs.declared.answer.Answer.{Answer}
+use Rattle.gv_base.specs.declared.answer.Answer.TheVariants.{Next, Blocked, Undefined}
+use Rattle.gv_spec.specs.Machine.{Stepped, GoesOn, Returns, Machine}
 use Rattle.gv_spec.specs.Runs.{Role, Recovers, Answers, Spawned, RunState, living, replaced, call_started, thread_ended, answered, disk_failed, unless_undefined, settled, first_state, crash_made, frame_returned, step_taken, step_made, call_made, event_made, outcome_of, after, run_of}
 use Rattle.gv_spec.specs.RunLaws.{ChangesNothing, NoCallBeforeBoot, NoStepOfEnded, EndedStays, CrashHappens, CrashDrops, NoFail, UndefinedStays, DefinedThroughout}
 
@@ -61,8 +63,8 @@ module _ {W T R V : Type 0} (machine : Machine W T R V) (allows : ℕ → List V
   pub not_before_boot : (s : RunState W T R V) (op : ℕ) (args : List V) → s.receiver ≡ None → outcome_of machine allows s (event.Call op args) ≡ Blocked
   not_before_boot s op args e = still_blocked s.fault (event_made machine allows s (event.Call op args)) (rw e refl)
 
-  pub not_ended : (s : RunState W T R V) (number : ℕ) → living s.threads number ≡ None → outcome_of machine allows s (event.Step number) ≡ Blocked
-  not_ended s number e = still_blocked s.fault (event_made machine allows s (event.Step number)) (ap (step_made machine s number) e)
+  pub not_ended : (s : RunState W T R V) (number extra : ℕ) → living s.threads number ≡ None → outcome_of machine allows s (event.Step number extra) ≡ Blocked
+  not_ended s number extra e = still_blocked s.fault (event_made machine allows s (event.Step number extra)) (ap (step_made machine s number extra) e)
 
   pub not_failing : (s : RunState W T R V) (disk : ℕ) → machine.failed disk s.world ≡ None → outcome_of machine allows s (event.Fail disk) ≡ Blocked
   not_failing s disk e = still_blocked s.fault (event_made machine allows s (event.Fail disk)) (ap (disk_failed s) e)
@@ -106,11 +108,11 @@ module _ {W T R V : Type 0} (machine : Machine W T R V) (allows : ℕ → List V
       go None b = gone
       go (Some r) false = gone
       go (Some r) true = started (machine.called r op args s.world)
-  event_stays s (event.Step m) number h gone = go (living s.threads m) refl
+  event_stays s (event.Step m extra) number h gone = go (living s.threads m) refl
     where
-      go : (o : Option (Role × T)) → living s.threads m ≡ o → living (settled s (step_made machine s m o)).threads number ≡ None
+      go : (o : Option (Role × T)) → living s.threads m ≡ o → living (settled s (step_made machine s m extra o)).threads number ≡ None
       go None e = gone
-      go (Some (role, t)) e = step_stays s m number role t e (machine.stepped t s.world) h gone
+      go (Some (role, t)) e = step_stays s m number role t e (machine.stepped extra t s.world) h gone
   event_stays s event.Crash number h gone = crash_drops s number h
   event_stays s (event.Fail disk) number h gone = go (machine.failed disk s.world)
     where
@@ -155,7 +157,7 @@ pub no_call_before_boot : (W T R V : Type 0) → NoCallBeforeBoot W T R V
 no_call_before_boot W T R V machine allows s op args h = not_before_boot machine allows s op args h
 
 pub no_step_of_ended : (W T R V : Type 0) → NoStepOfEnded W T R V
-no_step_of_ended W T R V machine allows s number h = not_ended machine allows s number h
+no_step_of_ended W T R V machine allows s number extra h = not_ended machine allows s number extra h
 
 pub stays_ended : (W T R V : Type 0) → EndedStays W T R V
 stays_ended W T R V machine allows s e number h gone = ended_stays machine allows s e number h gone

@@ -1,7 +1,9 @@
 -- A package of the small form refines each specification of the small form with the same operations.
-use Rattle.std.proofs.Common.{◌≡◌, ℕ, List, [], ◌∷◌, map, Option, Some, None, option_map, refl, ap, subst, ◌∙◌}
+use Rattle.std.proofs.Common.{◌≡◌, ℕ, List, [], ◌∷◌, map, Option, Some, None, option_map, refl, ap, subst, ◌∙◌, eqb-true, eq-eqb, ◌==◌}
+use Rattle.std.specs.Option.{option_map_or}
 use Rattle.gv_base.specs.declared.small.Small.{Small}
 use Rattle.gv_base.specs.declared.small.SmallOp.{SmallOp}
+use Rattle.gv_spec.specs.Plain.{Plain, IsPlain, unless_chosen}
 use Rattle.gv_spec.specs.Small.{SmallThread, Makes, Hands, Sums, Reference, Word, sum_value, op_taking, small_stepped, machine_of, specification_of, AgreeOps, SmallRefines, SmallRefinesWithoutCrash}
 use Rattle.gv_spec.proofs.Threads.{some_same}
 use Rattle.gv_spec.proofs.AtOnce.{AnswersAtOnce, RecoveryStep, recovery_goes, recovery_returns, call_returns, Calling, refines_at_once}
@@ -47,8 +49,26 @@ IsRecovering Makes = Unit {0}
 IsRecovering (Hands object) = Unit {0}
 IsRecovering (Sums op args) = ⊥
 
+-- a specification of the small form chooses nothing
+abbrev plain_of : Small → Plain (Unit {0}) ℕ
+plain_of small = record {
+  first_fields = tt;
+  applied = λ number args fields. (fields, option_map_or (λ op. sum_value op args) (op_taking small number args) 0);
+  crashed = λ fields. fields;
+  same = ◌==◌;
+  decides = λ x y. (eqb-true x y, eq-eqb x y);
+}
+
+is_plain : (small : Small) → IsPlain (specification_of small) (plain_of small)
+is_plain small = record {
+  first = refl;
+  applied = λ op args choices fields. refl;
+  crashed = λ choices fields. refl;
+  same = λ x y. refl;
+}
+
 module _ (program small : Small) (same : program.ops ≡ small.ops) where
-  at_once : AnswersAtOnce (machine_of program) (specification_of small) Fits IsRecovering
+  at_once : AnswersAtOnce (machine_of program) (specification_of small) (plain_of small) (is_plain small) Fits IsRecovering
   unfolding Fits IsRecovering begun
   at_once = record {
     starts = tt;
@@ -61,23 +81,23 @@ module _ (program small : Small) (same : program.ops ≡ small.ops) where
     fails = λ disk w f v e fit. tt;
   }
     where
-      steps : (t : SmallThread) (w f : Unit {0}) → IsRecovering t → Fits w f → RecoveryStep (machine_of program) (specification_of small) Fits IsRecovering f (small_stepped t w)
-      steps Makes w f h fit = recovery_goes w (Hands 1) tt tt
-      steps (Hands object) w f h fit = recovery_returns w (Reference object) tt
-      steps (Sums op args) w f h fit = absurd h
+      steps : (extra : ℕ) (t : SmallThread) (w f : Unit {0}) → IsRecovering t → Fits w f → RecoveryStep (machine_of program) (specification_of small) (plain_of small) (is_plain small) Fits IsRecovering f (small_stepped extra t w)
+      steps extra Makes w f h fit = recovery_goes w (Hands 1) tt tt
+      steps extra (Hands object) w f h fit = recovery_returns w (Reference object) tt
+      steps extra (Sums op args) w f h fit = absurd h
 
       call : (w v : Unit {0}) (t : SmallThread) (number : ℕ) (args : List ℕ) (o : Option SmallOp) → op_taking program number args ≡ o → option_map (begun w args) o ≡ Some (v, t)
-          → Calling (machine_of program) (specification_of small) Fits IsRecovering number args t
+          → Calling (machine_of program) (specification_of small) (plain_of small) (is_plain small) Fits IsRecovering number args t
       call w v t number args None e h = absurd cc
       call w v t number args (Some op) e h =
           let thread : Sums op args ≡ t = (let pair : begun w args op ≡ (v, t) = some_same (begun w args op) (v, t) h in ap (λ z. z.1) pair) in
           let found : op_taking small number args ≡ Some op = subst (λ z. op_taking z number args ≡ Some op) (same_small program small same) e in
-          subst (λ z. Calling (machine_of program) (specification_of small) Fits IsRecovering number args z) thread
-          (λ u f fit. call_returns u (Word (sum_value op args)) tt (rw found refl))
+          subst (λ z. Calling (machine_of program) (specification_of small) (plain_of small) (is_plain small) Fits IsRecovering number args z) thread
+          (λ extra u f fit. call_returns u (Word (sum_value op args)) tt (rw found refl))
 
 -- the same operations: every run is explained, crashes included
 pub small_refines : (program small : Small) → AgreeOps program small → SmallRefines program small
-small_refines program small a = refines_at_once (machine_of program) (specification_of small) Fits IsRecovering (at_once program small (same_of_agree program small a))
+small_refines program small a = refines_at_once (machine_of program) (specification_of small) (plain_of small) (is_plain small) Fits IsRecovering (at_once program small (same_of_agree program small a))
 
 pub small_refines_without_crash : (program small : Small) → AgreeOps program small → SmallRefinesWithoutCrash program small
 small_refines_without_crash program small a events h = small_refines program small a events

@@ -1,12 +1,12 @@
 -- Laws of walks and explanations, over any specification.
-use Rattle.std.proofs.Common.{◌≡◌, ◌≢◌, ◌↔◌, ◌⊎◌, ℕ, ◌+◌, ◌≤◌, Bool, true, false, eqb, cond, ◌&&◌, IsTrue, List, [], ◌∷◌, ◌++◌, Result, Ok, Err, refl, sym, ap, subst, ◌∙◌, inl, inr, arith, eqb-true, eq-eqb}
+use Rattle.std.proofs.Common.{◌≡◌, ◌≢◌, ◌↔◌, ◌⊎◌, ℕ, ◌+◌, ◌≤◌, Bool, true, false, eqb, cond, ◌&&◌, IsTrue, List, [], ◌∷◌, ◌++◌, Option, Some, None, Result, Ok, Err, refl, sym, ap, subst, ◌∙◌, inl, inr, arith, eqb-true, eq-eqb}
 use lib.Pointwise.{pointwise, pointwise_decides}
 use Rattle.gv_spec.specs.Entry as entry
 use Rattle.gv_spec.specs.Move as move
 use Rattle.gv_spec.specs.Entry.{Entry, same_entry}
-use Rattle.gv_spec.specs.Move.{Move, entries_of}
+use Rattle.gv_spec.specs.Move.{Move, shown, entries_of}
 use Rattle.gv_spec.specs.Specification.{Specification}
-use Rattle.gv_spec.specs.Walks.{Standing, NeverCalled, Called, Acted, Answered, Dropped, WalkState, WalkCause, WalkFault, Order, WrongReply, entered, dropped, onward, located, first_walk, walk_called, walk_acted, walk_answered, walk_moved, walk_from, Explains, walk_beside}
+use Rattle.gv_spec.specs.Walks.{Standing, NeverCalled, Called, Acted, Answered, Dropped, WalkState, WalkCause, WalkFault, Order, WrongReply, entered, dropped, onward, located, first_walk, walk_called, acted_to, walk_acted, walk_answered, booted_to, walk_moved, walk_from, Explains, in_order, left_after, at_end, walk_beside}
 use Rattle.gv_spec.specs.WalkLaws.{ActsWith, WalkTells, ActsOnce, AnsweredActs, NoActAfterBoot, NoWrongReply}
 use Rattle.gv_spec.proofs.Moves.{entered_same, walk_append}
 
@@ -51,13 +51,15 @@ module _ {V : Type 0} (same : V → V → Bool) (decides : (x y : V) → IsTrue 
 -- what a move that the walk doesn't refuse has met, and what it leaves
 pub data Walked {F V : Type 0} (atomic : Specification F V) (w u : WalkState F V) : Move V → Type 0 where
   by_call : (n op : ℕ) (args : List V) → w.table n ≡ NeverCalled → u.fields ≡ w.fields → u.table ≡ entered w.table n (Called op args) → Walked atomic w u (move.Other (entry.Call n op args))
-  by_act : (n op : ℕ) (args : List V) → w.table n ≡ Called op args → u.table ≡ entered w.table n (Acted (atomic.applied op args w.fields).1) → Walked atomic w u (move.Act n)
+  by_act : (n op : ℕ) (args : List V) (choices : List ℕ) (reply : V) → w.table n ≡ Called op args → atomic.applied op args choices w.fields ≡ Some (u.fields, reply)
+      → u.table ≡ entered w.table n (Acted reply) → Walked atomic w u (move.Act n choices)
   by_answer : (n : ℕ) (reply : V) → w.table n ≡ Acted reply → u.table ≡ entered w.table n Answered → Walked atomic w u (move.Other (entry.Answer n reply))
   by_crash : u.table ≡ w.table → Walked atomic w u (move.Other entry.Crash)
-  by_boot : u.table ≡ (λ n. dropped (w.table n)) → Walked atomic w u (move.Other entry.Boot)
+  by_boot : (choices : List ℕ) → u.table ≡ (λ n. dropped (w.table n)) → Walked atomic w u (move.Boot choices)
+  by_plain_boot : u.table ≡ (λ n. dropped (w.table n)) → Walked atomic w u (move.Other entry.Boot)
 
 module _ {F V : Type 0} (atomic : Specification F V) where
-  abbrev walked_to : WalkState F V → Result (WalkState F V) WalkCause
+  abbrev pub walked_to : WalkState F V → Result (WalkState F V) WalkCause
   walked_to w = Ok w
 
   ok_same : (x y : WalkState F V) → walked_to x ≡ walked_to y → x ≡ y
@@ -70,15 +72,26 @@ module _ {F V : Type 0} (atomic : Specification F V) where
   called_walked w u n op args Answered h e = absurd cc
   called_walked w u n op args Dropped h e = absurd cc
 
-  acted_walked : (w u : WalkState F V) (n : ℕ) (c : Standing V) → w.table n ≡ c → walk_acted atomic w n c ≡ Ok u → Walked atomic w u (move.Act n)
-  acted_walked w u n (Called op args) h e = (
-      let next : WalkState F V = record { fields = (atomic.applied op args w.fields).0; table = entered w.table n (Acted (atomic.applied op args w.fields).1) } in
-      let same : next ≡ u = ok_same next u e in
-      by_act n op args h (ap (λ z. z.table) (sym same)))
-  acted_walked w u n NeverCalled h e = absurd cc
-  acted_walked w u n (Acted reply) h e = absurd cc
-  acted_walked w u n Answered h e = absurd cc
-  acted_walked w u n Dropped h e = absurd cc
+  acted_walked : (w u : WalkState F V) (n : ℕ) (choices : List ℕ) (c : Standing V) → w.table n ≡ c → walk_acted atomic w n choices c ≡ Ok u → Walked atomic w u (move.Act n choices)
+  acted_walked w u n choices (Called op args) h e = go (atomic.applied op args choices w.fields) refl e
+    where
+      go : (o : Option (F × V)) → atomic.applied op args choices w.fields ≡ o → acted_to atomic w n o ≡ Ok u → Walked atomic w u (move.Act n choices)
+      go None f k = absurd cc
+      go (Some (fields, reply)) f k = (
+          let next : WalkState F V = record { fields = fields; table = entered w.table n (Acted reply) } in
+          let same : next ≡ u = ok_same next u k in
+          by_act n op args choices reply h (f ∙ ap (λ z. Some (z.fields, reply)) same) (ap (λ z. z.table) (sym same)))
+  acted_walked w u n choices NeverCalled h e = absurd cc
+  acted_walked w u n choices (Acted reply) h e = absurd cc
+  acted_walked w u n choices Answered h e = absurd cc
+  acted_walked w u n choices Dropped h e = absurd cc
+
+  -- the table after a boot
+  booted_table : (w u : WalkState F V) (o : Option F) → booted_to atomic w o ≡ Ok u → u.table ≡ (λ n. dropped (w.table n))
+  booted_table w u None e = absurd cc
+  booted_table w u (Some fields) e = (
+      let next : WalkState F V = record { fields = fields; table = λ n. dropped (w.table n) } in
+      ap (λ z. z.table) (sym (ok_same next u e)))
 
   answered_walked : (w u : WalkState F V) (n : ℕ) (reply : V) (c : Standing V) → w.table n ≡ c → walk_answered atomic w n reply c ≡ Ok u → Walked atomic w u (move.Other (entry.Answer n reply))
   answered_walked w u n reply (Acted kept) h e = go (atomic.same reply kept) refl e
@@ -95,13 +108,12 @@ module _ {F V : Type 0} (atomic : Specification F V) where
   answered_walked w u n reply Dropped h e = absurd cc
 
   pub moved_walked : (w u : WalkState F V) (m : Move V) → walk_moved atomic w m ≡ Ok u → Walked atomic w u m
-  moved_walked w u (move.Act n) e = acted_walked w u n (w.table n) refl e
+  moved_walked w u (move.Act n choices) e = acted_walked w u n choices (w.table n) refl e
+  moved_walked w u (move.Boot choices) e = by_boot choices (booted_table w u (atomic.crashed choices w.fields) e)
   moved_walked w u (move.Other (entry.Call n op args)) e = called_walked w u n op args (w.table n) refl e
   moved_walked w u (move.Other (entry.Answer n reply)) e = answered_walked w u n reply (w.table n) refl e
   moved_walked w u (move.Other entry.Crash) e = by_crash (ap (λ z. z.table) (sym (ok_same w u e)))
-  moved_walked w u (move.Other entry.Boot) e = (
-      let next : WalkState F V = record { fields = atomic.crashed w.fields; table = λ n. dropped (w.table n) } in
-      by_boot (ap (λ z. z.table) (sym (ok_same next u e))))
+  moved_walked w u (move.Other entry.Boot) e = by_plain_boot (booted_table w u (atomic.crashed [] w.fields) e)
 
 -- ---- how far a call has come
 
@@ -140,10 +152,11 @@ module _ {F V : Type 0} (atomic : Specification F V) where
   grows_once : (w u : WalkState F V) (m : Move V) (n : ℕ) → Walked atomic w u m → rank (w.table n) ≤ rank (u.table n)
   unfolding rank
   grows_once w u m n (by_call k op args e f t) = subst (λ z. rank (w.table n) ≤ rank (z n)) (sym t) (enter_rank w.table k NeverCalled (Called op args) n e (omega arith))
-  grows_once w u m n (by_act k op args e t) = subst (λ z. rank (w.table n) ≤ rank (z n)) (sym t) (enter_rank w.table k (Called op args) (Acted (atomic.applied op args w.fields).1) n e (omega arith))
+  grows_once w u m n (by_act k op args choices reply e f t) = subst (λ z. rank (w.table n) ≤ rank (z n)) (sym t) (enter_rank w.table k (Called op args) (Acted reply) n e (omega arith))
   grows_once w u m n (by_answer k reply e t) = subst (λ z. rank (w.table n) ≤ rank (z n)) (sym t) (enter_rank w.table k (Acted reply) Answered n e (omega arith))
   grows_once w u m n (by_crash t) = subst (λ z. rank (w.table n) ≤ rank (z n)) (sym t) (omega arith)
-  grows_once w u m n (by_boot t) = subst (λ z. rank (w.table n) ≤ rank (z n)) (sym t) (drop_rank (w.table n))
+  grows_once w u m n (by_boot choices t) = subst (λ z. rank (w.table n) ≤ rank (z n)) (sym t) (drop_rank (w.table n))
+  grows_once w u m n (by_plain_boot t) = subst (λ z. rank (w.table n) ≤ rank (z n)) (sym t) (drop_rank (w.table n))
 
   -- ---- walks in parts
 
@@ -176,19 +189,24 @@ module _ {F V : Type 0} (atomic : Specification F V) where
   grows w v (m ∷ ms) n e = (let t = taken w v m ms e in let a = grows_once w t.next m n t.first in let b = grows t.next v ms n t.rest in omega (arith, a, b))
 
   -- the ranks before and after an act, a call and a boot
-  act_ranks : (w u : WalkState F V) (n : ℕ) → Walked atomic w u (move.Act n) → (rank (w.table n) ≡ 1) × (rank (u.table n) ≡ 2)
+  act_ranks : (w u : WalkState F V) (n : ℕ) (choices : List ℕ) → Walked atomic w u (move.Act n choices) → (rank (w.table n) ≡ 1) × (rank (u.table n) ≡ 2)
   unfolding rank
-  act_ranks w u n (by_act k op args e t) = (ap rank e, ap (λ z. rank (z n)) t ∙ ap rank (entered_same w.table n (Acted (atomic.applied op args w.fields).1)))
+  act_ranks w u n choices (by_act k op args cs reply e f t) = (ap rank e, ap (λ z. rank (z n)) t ∙ ap rank (entered_same w.table n (Acted reply)))
 
   call_ranks : (w u : WalkState F V) (n op : ℕ) (args : List V) → Walked atomic w u (move.Other (entry.Call n op args)) → (rank (w.table n) ≡ 0) × (u.table n ≡ Called op args)
   unfolding rank
   call_ranks w u n op args (by_call k o a e f t) = (ap rank e, ap (λ z. z n) t ∙ entered_same w.table n (Called op args))
 
-  boot_table : (w u : WalkState F V) (n : ℕ) → Walked atomic w u (move.Other entry.Boot) → u.table n ≡ dropped (w.table n)
-  boot_table w u n (by_boot t) = ap (λ z. z n) t
+  boot_table : (w u : WalkState F V) (m : Move V) (n : ℕ) → shown m ≡ Some entry.Boot → Walked atomic w u m → u.table n ≡ dropped (w.table n)
+  boot_table w u m n h (by_call k op args e f t) = absurd cc
+  boot_table w u m n h (by_act k op args choices reply e f t) = absurd cc
+  boot_table w u m n h (by_answer k reply e t) = absurd cc
+  boot_table w u m n h (by_crash t) = absurd cc
+  boot_table w u m n h (by_boot choices t) = ap (λ z. z n) t
+  boot_table w u m n h (by_plain_boot t) = ap (λ z. z n) t
 
-  boot_rank : (w u : WalkState F V) (n : ℕ) → Walked atomic w u (move.Other entry.Boot) → 1 ≤ rank (w.table n) → rank (u.table n) ≡ 3
-  boot_rank w u n step h = ap rank (boot_table w u n step) ∙ past_boot (w.table n) h
+  boot_rank : (w u : WalkState F V) (m : Move V) (n : ℕ) → shown m ≡ Some entry.Boot → Walked atomic w u m → 1 ≤ rank (w.table n) → rank (u.table n) ≡ 3
+  boot_rank w u m n is step h = ap rank (boot_table w u m n is step) ∙ past_boot (w.table n) h
 
   answer_table : (w u : WalkState F V) (n : ℕ) (reply : V) → Walked atomic w u (move.Other (entry.Answer n reply)) → w.table n ≡ Acted reply
   answer_table w u n reply (by_answer k r e t) = e
@@ -199,31 +217,32 @@ module _ {F V : Type 0} (atomic : Specification F V) where
 
   -- ---- once, and not after a boot
 
-  acts_once_from : (w v : WalkState F V) (n : ℕ) (front middle rest : List (Move V)) → walk_from atomic w (front ++ move.Act n ∷ (middle ++ move.Act n ∷ rest)) ≡ Ok v → ⊥
-  acts_once_from w v n front middle rest e =
-      let s = split w v front (move.Act n ∷ (middle ++ move.Act n ∷ rest)) e in
-      let t = taken s.mid v (move.Act n) (middle ++ move.Act n ∷ rest) s.back in
-      let one = act_ranks s.mid t.next n t.first in
-      let u = split t.next v middle (move.Act n ∷ rest) t.rest in
+  acts_once_from : (w v : WalkState F V) (n : ℕ) (choices others : List ℕ) (front middle rest : List (Move V))
+      → walk_from atomic w (front ++ move.Act n choices ∷ (middle ++ move.Act n others ∷ rest)) ≡ Ok v → ⊥
+  acts_once_from w v n choices others front middle rest e =
+      let s = split w v front (move.Act n choices ∷ (middle ++ move.Act n others ∷ rest)) e in
+      let t = taken s.mid v (move.Act n choices) (middle ++ move.Act n others ∷ rest) s.back in
+      let one = act_ranks s.mid t.next n choices t.first in
+      let u = split t.next v middle (move.Act n others ∷ rest) t.rest in
       let more = grows t.next u.mid middle n u.front in
-      let z = taken u.mid v (move.Act n) rest u.back in
-      let two = act_ranks u.mid z.next n z.first in
+      let z = taken u.mid v (move.Act n others) rest u.back in
+      let two = act_ranks u.mid z.next n others z.first in
       omega (arith, one.1, more, two.0)
 
-  no_act_after_boot_from : (w v : WalkState F V) (n op : ℕ) (args : List V) (front middle later rest : List (Move V))
-      → walk_from atomic w (front ++ move.Other (entry.Call n op args) ∷ (middle ++ move.Other entry.Boot ∷ (later ++ move.Act n ∷ rest))) ≡ Ok v → ⊥
-  no_act_after_boot_from w v n op args front middle later rest e =
-      let s = split w v front (move.Other (entry.Call n op args) ∷ (middle ++ move.Other entry.Boot ∷ (later ++ move.Act n ∷ rest))) e in
-      let t = taken s.mid v (move.Other (entry.Call n op args)) (middle ++ move.Other entry.Boot ∷ (later ++ move.Act n ∷ rest)) s.back in
+  no_act_after_boot_from : (w v : WalkState F V) (n op : ℕ) (args : List V) (choices : List ℕ) (boot : Move V) (front middle later rest : List (Move V)) → shown boot ≡ Some entry.Boot
+      → walk_from atomic w (front ++ move.Other (entry.Call n op args) ∷ (middle ++ boot ∷ (later ++ move.Act n choices ∷ rest))) ≡ Ok v → ⊥
+  no_act_after_boot_from w v n op args choices boot front middle later rest is e =
+      let s = split w v front (move.Other (entry.Call n op args) ∷ (middle ++ boot ∷ (later ++ move.Act n choices ∷ rest))) e in
+      let t = taken s.mid v (move.Other (entry.Call n op args)) (middle ++ boot ∷ (later ++ move.Act n choices ∷ rest)) s.back in
       let started = rank_called t.next n op args (call_ranks s.mid t.next n op args t.first).1 in
-      let u = split t.next v middle (move.Other entry.Boot ∷ (later ++ move.Act n ∷ rest)) t.rest in
+      let u = split t.next v middle (boot ∷ (later ++ move.Act n choices ∷ rest)) t.rest in
       let more = grows t.next u.mid middle n u.front in
-      let b = taken u.mid v (move.Other entry.Boot) (later ++ move.Act n ∷ rest) u.back in
-      let gone = boot_rank u.mid b.next n b.first (omega (arith, started, more)) in
-      let l = split b.next v later (move.Act n ∷ rest) b.rest in
+      let b = taken u.mid v boot (later ++ move.Act n choices ∷ rest) u.back in
+      let gone = boot_rank u.mid b.next boot n is b.first (omega (arith, started, more)) in
+      let l = split b.next v later (move.Act n choices ∷ rest) b.rest in
       let still = grows b.next l.mid later n l.front in
-      let a = taken l.mid v (move.Act n) rest l.back in
-      let acts = act_ranks l.mid a.next n a.first in
+      let a = taken l.mid v (move.Act n choices) rest l.back in
+      let acts = act_ranks l.mid a.next n choices a.first in
       omega (arith, gone, still, acts.0)
 
 -- ---- where a standing comes from
@@ -261,13 +280,15 @@ module _ {F V : Type 0} (atomic : Specification F V) where
   record ActPart (w : WalkState F V) (ms : List (Move V)) (n : ℕ) (kept : V) : Type 0 where
     op : ℕ
     args : List V
+    choices : List ℕ
     before : List (Move V)
     since : List (Move V)
-    parts : ms ≡ before ++ move.Act n ∷ since
+    parts : ms ≡ before ++ move.Act n choices ∷ since
     at : WalkState F V
     reached : walk_from atomic w before ≡ Ok at
     stood : at.table n ≡ Called op args
-    replied : (atomic.applied op args at.fields).1 ≡ kept
+    fields : F
+    replied : atomic.applied op args choices at.fields ≡ Some (fields, kept)
 
   record CallPart (ms : List (Move V)) (n op : ℕ) (args : List V) : Type 0 where
     before : List (Move V)
@@ -280,17 +301,19 @@ module _ {F V : Type 0} (atomic : Specification F V) where
     | inl p ↦ absurd (let d = sym p.1 ∙ sym (ap (λ z. z n) t) ∙ h in cc)
     | inr p ↦ inl (sym p ∙ sym (ap (λ z. z n) t) ∙ h)
   ]
-  acted_before w u m n kept ms (by_act k op args e t) h = elim (entered_cases w.table k (Acted (atomic.applied op args w.fields).1) n) [
+  acted_before w u m n kept ms (by_act k op args choices reply e f t) h = elim (entered_cases w.table k (Acted reply) n) [
     | inl p ↦ inr (record {
       op = op;
       args = args;
+      choices = choices;
       before = [];
       since = ms;
-      parts = ap (λ z. move.Act z ∷ ms) (sym p.0);
+      parts = ap (λ z. move.Act z choices ∷ ms) (sym p.0);
       at = w;
       reached = refl;
       stood = ap w.table p.0 ∙ e;
-      replied = acted_same (atomic.applied op args w.fields).1 kept (sym p.1 ∙ sym (ap (λ z. z n) t) ∙ h);
+      fields = u.fields;
+      replied = f ∙ ap (λ z. Some (u.fields, z)) (acted_same reply kept (sym p.1 ∙ sym (ap (λ z. z n) t) ∙ h));
     })
     | inr p ↦ inl (sym p ∙ sym (ap (λ z. z n) t) ∙ h)
   ]
@@ -299,7 +322,8 @@ module _ {F V : Type 0} (atomic : Specification F V) where
     | inr p ↦ inl (sym p ∙ sym (ap (λ z. z n) t) ∙ h)
   ]
   acted_before w u m n kept ms (by_crash t) h = inl (sym (ap (λ z. z n) t) ∙ h)
-  acted_before w u m n kept ms (by_boot t) h = absurd (undropped_acted (w.table n) kept (sym (ap (λ z. z n) t) ∙ h))
+  acted_before w u m n kept ms (by_boot choices t) h = absurd (undropped_acted (w.table n) kept (sym (ap (λ z. z n) t) ∙ h))
+  acted_before w u m n kept ms (by_plain_boot t) h = absurd (undropped_acted (w.table n) kept (sym (ap (λ z. z n) t) ∙ h))
 
   acted_where : (w v : WalkState F V) (ms : List (Move V)) (n : ℕ) (kept : V) → walk_from atomic w ms ≡ Ok v → v.table n ≡ Acted kept → (w.table n ≡ Acted kept) ⊎ ActPart w ms n kept
   acted_where w v [] n kept e h = inl (ap (λ z. z.table n) (ok_same atomic w v e) ∙ h)
@@ -314,12 +338,14 @@ module _ {F V : Type 0} (atomic : Specification F V) where
         | inr part ↦ inr (record {
           op = part.op;
           args = part.args;
+          choices = part.choices;
           before = m ∷ part.before;
           since = part.since;
           parts = ap (λ z. m ∷ z) part.parts;
           at = part.at;
           reached = rw first part.reached;
           stood = part.stood;
+          fields = part.fields;
           replied = part.replied;
         })
       ]
@@ -332,7 +358,7 @@ module _ {F V : Type 0} (atomic : Specification F V) where
         record { before = []; since = ms; parts = ap (λ z. z ∷ ms) front })
     | inr p ↦ inl (sym p ∙ sym (ap (λ z. z n) t) ∙ h)
   ]
-  called_before w u m n op args ms (by_act k o a e t) h = elim (entered_cases w.table k (Acted (atomic.applied o a w.fields).1) n) [
+  called_before w u m n op args ms (by_act k o a choices reply e f t) h = elim (entered_cases w.table k (Acted reply) n) [
     | inl p ↦ absurd (let d = sym p.1 ∙ sym (ap (λ z. z n) t) ∙ h in cc)
     | inr p ↦ inl (sym p ∙ sym (ap (λ z. z n) t) ∙ h)
   ]
@@ -341,7 +367,8 @@ module _ {F V : Type 0} (atomic : Specification F V) where
     | inr p ↦ inl (sym p ∙ sym (ap (λ z. z n) t) ∙ h)
   ]
   called_before w u m n op args ms (by_crash t) h = inl (sym (ap (λ z. z n) t) ∙ h)
-  called_before w u m n op args ms (by_boot t) h = absurd (undropped_called (w.table n) op args (sym (ap (λ z. z n) t) ∙ h))
+  called_before w u m n op args ms (by_boot choices t) h = absurd (undropped_called (w.table n) op args (sym (ap (λ z. z n) t) ∙ h))
+  called_before w u m n op args ms (by_plain_boot t) h = absurd (undropped_called (w.table n) op args (sym (ap (λ z. z n) t) ∙ h))
 
   called_where : (w v : WalkState F V) (ms : List (Move V)) (n op : ℕ) (args : List V) → walk_from atomic w ms ≡ Ok v → v.table n ≡ Called op args → (w.table n ≡ Called op args) ⊎ CallPart ms n op args
   called_where w v [] n op args e h = inl (ap (λ z. z.table n) (ok_same atomic w v e) ∙ h)
@@ -378,9 +405,11 @@ module _ {F V : Type 0} (atomic : Specification F V) where
         before = call.before;
         between = call.since;
         since = part.since;
-        parts = part.parts ∙ ap (λ z. z ++ move.Act n ∷ part.since) call.parts;
+        choices = part.choices;
+        parts = part.parts ∙ ap (λ z. z ++ move.Act n part.choices ∷ part.since) call.parts;
         at = part.at;
         reached = subst (λ z. walk_from atomic (first_walk atomic) z ≡ Ok part.at) call.parts part.reached;
+        fields = part.fields;
         replied = part.replied;
       }
 
@@ -398,22 +427,35 @@ module _ {F V : Type 0} (atomic : Specification F V) where
   tails_same : (m f : Entry V) (xs ys : List (Entry V)) → m ∷ xs ≡ f ∷ ys → xs ≡ ys
   tails_same m f xs ys h = cc
 
-  -- where the moves stand whose entries are these
-  cut : (ms : List (Move V)) (front : List (Entry V)) (e : Entry V) (rest : List (Entry V)) → entries_of ms ≡ front ++ e ∷ rest → Cut ms front e rest
-  cut [] [] e rest h = absurd cc
-  cut [] (f ∷ front) e rest h = absurd cc
-  cut (move.Act n ∷ ms) front e rest h = cut_later (move.Act n) ms front front e rest (cut ms front e rest h)
-  cut (move.Other m ∷ ms) [] e rest h = (
+  heads_same : (m f : Entry V) (xs ys : List (Entry V)) → m ∷ xs ≡ f ∷ ys → m ≡ f
+  heads_same m f xs ys h = cc
+
+  -- where the moves stand that show these entries, but for a boot, which two moves show
+  cut : (ms : List (Move V)) (front : List (Entry V)) (e : Entry V) (rest : List (Entry V)) → (entry.Boot ≡ e → ⊥) → entries_of ms ≡ front ++ e ∷ rest → Cut ms front e rest
+  cut [] [] e rest unlike h = absurd cc
+  cut [] (f ∷ front) e rest unlike h = absurd cc
+  cut (move.Act n choices ∷ ms) front e rest unlike h = cut_later (move.Act n choices) ms front front e rest (cut ms front e rest unlike h)
+  cut (move.Boot choices ∷ ms) [] e rest unlike h = absurd (unlike (heads_same entry.Boot e (entries_of ms) rest h))
+  cut (move.Boot choices ∷ ms) (f ∷ front) e rest unlike h =
+      cut_later (move.Boot choices) ms front (f ∷ front) e rest (cut ms front e rest unlike (tails_same entry.Boot f (entries_of ms) (front ++ e ∷ rest) h))
+  cut (move.Other m ∷ ms) [] e rest unlike h = (
       let same : m ≡ e = cc in
       record { before = []; since = ms; parts = ap (λ z. move.Other z ∷ ms) same; left = tails_same m e (entries_of ms) rest h })
-  cut (move.Other m ∷ ms) (f ∷ front) e rest h = cut_later (move.Other m) ms front (f ∷ front) e rest (cut ms front e rest (tails_same m f (entries_of ms) (front ++ e ∷ rest) h))
+  cut (move.Other m ∷ ms) (f ∷ front) e rest unlike h = cut_later (move.Other m) ms front (f ∷ front) e rest (cut ms front e rest unlike (tails_same m f (entries_of ms) (front ++ e ∷ rest) h))
 
   not_called_and_acted : (c : Standing V) (op : ℕ) (args : List V) (reply : V) → c ≡ Called op args → c ≡ Acted reply → ⊥
   not_called_and_acted c op args reply e h = (let d = sym e ∙ h in cc)
 
+  -- the operation replies this on some fields, under some choices
+  record Replied (op : ℕ) (args : List V) (reply : V) : Type 0 where
+    choices : List ℕ
+    before : F
+    after : F
+    is : atomic.applied op args choices before ≡ Some (after, reply)
+
   -- from a move on that starts call n, an answer is its operation's reply
   replies_from : (w v : WalkState F V) (n op : ℕ) (args : List V) (reply : V) (middle rest : List (Move V))
-      → walk_from atomic w (move.Other (entry.Call n op args) ∷ (middle ++ move.Other (entry.Answer n reply) ∷ rest)) ≡ Ok v → (fields : F) × (reply ≡ (atomic.applied op args fields).1)
+      → walk_from atomic w (move.Other (entry.Call n op args) ∷ (middle ++ move.Other (entry.Answer n reply) ∷ rest)) ≡ Ok v → Replied op args reply
   replies_from w v n op args reply middle rest e =
       let t = taken atomic w v (move.Other (entry.Call n op args)) (middle ++ move.Other (entry.Answer n reply) ∷ rest) e in
       let called = (call_ranks atomic w t.next n op args t.first).1 in
@@ -425,10 +467,10 @@ module _ {F V : Type 0} (atomic : Specification F V) where
         | inr part ↦ go t.next called part (called_where t.next part.at part.before n part.op part.args part.reached part.stood)
       ]
     where
-      go : (u : WalkState F V) → u.table n ≡ Called op args → (part : ActPart u middle n reply) → (u.table n ≡ Called part.op part.args) ⊎ CallPart part.before n part.op part.args → (fields : F) × (reply ≡ (atomic.applied op args fields).1)
+      go : (u : WalkState F V) → u.table n ≡ Called op args → (part : ActPart u middle n reply) → (u.table n ≡ Called part.op part.args) ⊎ CallPart part.before n part.op part.args → Replied op args reply
       go u called part (inl h) =
           let same = called_same op part.op args part.args (sym called ∙ h) in
-          (part.at.fields, sym (rw (same.0, same.1) part.replied))
+          record { choices = part.choices; before = part.at.fields; after = part.fields; is = rw (same.0, same.1) part.replied }
       go u called part (inr call) =
           let path : walk_from atomic u (call.before ++ move.Other (entry.Call n part.op part.args) ∷ call.since) ≡ Ok part.at = subst (λ z. walk_from atomic u z ≡ Ok part.at) call.parts part.reached in
           let s = split atomic u part.at call.before (move.Other (entry.Call n part.op part.args) ∷ call.since) path in
@@ -438,16 +480,17 @@ module _ {F V : Type 0} (atomic : Specification F V) where
           let none = (call_ranks atomic s.mid again.next n part.op part.args again.first).0 in
           absurd (omega (arith, more, one, none))
 
-  no_wrong_reply_in : (n op : ℕ) (args : List V) (reply : V) (front middle rest : List (Entry V)) → ((fields : F) → reply ≢ (atomic.applied op args fields).1)
+  no_wrong_reply_in : (n op : ℕ) (args : List V) (reply : V) (front middle rest : List (Entry V))
+      → ((choices : List ℕ) (fields after : F) → atomic.applied op args choices fields ≢ Some (after, reply))
       → (moves : List (Move V)) → Explains atomic moves (front ++ entry.Call n op args ∷ (middle ++ entry.Answer n reply ∷ rest)) → ⊥
   no_wrong_reply_in n op args reply front middle rest wrong moves x =
-      let c = cut moves front (entry.Call n op args) (middle ++ entry.Answer n reply ∷ rest) x.entries in
-      let d = cut c.since middle (entry.Answer n reply) rest c.left in
+      let c = cut moves front (entry.Call n op args) (middle ++ entry.Answer n reply ∷ rest) (λ h. cc) x.entries in
+      let d = cut c.since middle (entry.Answer n reply) rest (λ h. cc) c.left in
       let path : walk_from atomic (first_walk atomic) (c.before ++ move.Other (entry.Call n op args) ∷ (d.before ++ move.Other (entry.Answer n reply) ∷ d.since)) ≡ Ok x.end =
       subst (λ z. walk_from atomic (first_walk atomic) (c.before ++ move.Other (entry.Call n op args) ∷ z) ≡ Ok x.end) d.parts (subst (λ z. walk_from atomic (first_walk atomic) z ≡ Ok x.end) c.parts x.passes) in
       let s = split atomic (first_walk atomic) x.end c.before (move.Other (entry.Call n op args) ∷ (d.before ++ move.Other (entry.Answer n reply) ∷ d.since)) path in
       let found = replies_from s.mid x.end n op args reply d.before d.since s.back in
-      wrong found.0 found.1
+      wrong found.choices found.before found.after found.is
 
   -- ---- the walk beside a history
 
@@ -456,29 +499,59 @@ module _ {F V : Type 0} (atomic : Specification F V) where
   located_ok index next plain same end (Ok u) h e = h u e
   located_ok index next plain same end (Err cause) h e = absurd cc
 
-  told : (index : ℕ) (w : WalkState F V) (left : List (Entry V)) (ms : List (Move V)) (end : WalkState F V) → walk_beside atomic index w left ms ≡ Ok end → (entries_of ms ≡ left) × (walk_from atomic w ms ≡ Ok end)
-  told index w [] [] end e = (refl, ap walk_plain (ok_beside w end e))
-    where
-      walk_plain : WalkState F V → Result (WalkState F V) WalkCause
-      walk_plain u = Ok u
+  -- what a move shows stands before what the later moves show
+  shows : Option (Entry V) → List (Entry V) → List (Entry V)
+  shows None es = es
+  shows (Some e) es = e ∷ es
 
-      ok_beside : (x y : WalkState F V) → walk_beside atomic index x [] [] ≡ Ok y → x ≡ y
-      ok_beside x y h = cc
-  told index w (f ∷ left) [] end e = absurd cc
-  told index w [] (move.Act n ∷ ms) end e = located_ok index (λ u. walk_beside atomic (index + 1) u [] ms) (λ u. walk_from atomic u ms) (entries_of ms ≡ []) end (walk_moved atomic w (move.Act n)) (λ u h. told (index + 1) u [] ms end h) e
-  told index w (f ∷ left) (move.Act n ∷ ms) end e = located_ok index (λ u. walk_beside atomic (index + 1) u (f ∷ left) ms) (λ u. walk_from atomic u ms) (entries_of ms ≡ f ∷ left) end (walk_moved atomic w (move.Act n)) (λ u h. told (index + 1) u (f ∷ left) ms end h) e
-  told index w [] (move.Other m ∷ ms) end e = absurd cc
-  told index w (f ∷ left) (move.Other m ∷ ms) end e = go (same_entry atomic.same m f) refl e (λ u h. told (index + 1) u left ms end h)
+  shows_first : (m : Move V) (ms : List (Move V)) → entries_of (m ∷ ms) ≡ shows (shown m) (entries_of ms)
+  unfolding shows
+  shows_first (move.Act n choices) ms = refl
+  shows_first (move.Boot choices) ms = refl
+  shows_first (move.Other e) ms = refl
+
+  -- a move in order shows the front of the history
+  front_shown : (left : List (Entry V)) (o : Option (Entry V)) (es : List (Entry V)) → in_order atomic.same left o ≡ true → es ≡ left_after left o → shows o es ≡ left
+  unfolding shows
+  front_shown left None es t e = e
+  front_shown [] (Some m) es t e = absurd cc
+  front_shown (f ∷ left) (Some m) es t e = (let alike = entries_same atomic.same atomic.decides m f t in cc)
+
+  -- and what shows the front of the history is in order
+  shown_front : (left : List (Entry V)) (o : Option (Entry V)) (es : List (Entry V)) → shows o es ≡ left → (in_order atomic.same left o ≡ true) × (es ≡ left_after left o)
+  unfolding shows
+  shown_front left None es e = (refl, e)
+  shown_front [] (Some m) es e = absurd cc
+  shown_front (f ∷ left) (Some m) es e = (
+      let alike : m ≡ f = heads_same m f es left e in
+      (subst (λ z. same_entry atomic.same m z ≡ true) alike (own_entry atomic.same atomic.decides m), tails_same m f es left e))
+
+  ok_end : (index : ℕ) (w end : WalkState F V) (left : List (Entry V)) → at_end atomic index w left ≡ Ok end → ([] ≡ left) × (walked_to atomic w ≡ Ok end)
+  ok_end index w end [] e = (refl, ap (walked_to atomic) (beside_same w end e))
     where
-      go : (b : Bool) → same_entry atomic.same m f ≡ b
-          → cond b (located index (λ u. walk_beside atomic (index + 1) u left ms) (walk_moved atomic w (move.Other m))) (Err (record { index = index; cause = Order })) ≡ Ok end
-          → ((u : WalkState F V) → walk_beside atomic (index + 1) u left ms ≡ Ok end → (entries_of ms ≡ left) × (walk_from atomic u ms ≡ Ok end))
-          → (m ∷ entries_of ms ≡ f ∷ left) × (walk_from atomic w (move.Other m ∷ ms) ≡ Ok end)
+      beside_same : (x y : WalkState F V) → at_end atomic index x [] ≡ Ok y → x ≡ y
+      beside_same x y h = cc
+  ok_end index w end (f ∷ left) e = absurd cc
+
+  end_ok : (index : ℕ) (w end : WalkState F V) (left : List (Entry V)) → [] ≡ left → walked_to atomic w ≡ Ok end → at_end atomic index w left ≡ Ok end
+  end_ok index w end [] h e = ap (at_end_of index) (ok_same atomic w end e)
+    where
+      at_end_of : ℕ → WalkState F V → Result (WalkState F V) WalkFault
+      at_end_of index u = Ok u
+  end_ok index w end (f ∷ left) h e = absurd cc
+
+  told : (index : ℕ) (w : WalkState F V) (left : List (Entry V)) (ms : List (Move V)) (end : WalkState F V) → walk_beside atomic index w left ms ≡ Ok end → (entries_of ms ≡ left) × (walk_from atomic w ms ≡ Ok end)
+  told index w left [] end e = ok_end index w end left e
+  told index w left (m ∷ ms) end e = go (in_order atomic.same left (shown m)) refl e (λ u h. told (index + 1) u (left_after left (shown m)) ms end h)
+    where
+      go : (b : Bool) → in_order atomic.same left (shown m) ≡ b
+          → located index (λ u. walk_beside atomic (index + 1) u (left_after left (shown m)) ms) (cond b (walk_moved atomic w m) (Err Order)) ≡ Ok end
+          → ((u : WalkState F V) → walk_beside atomic (index + 1) u (left_after left (shown m)) ms ≡ Ok end → (entries_of ms ≡ left_after left (shown m)) × (walk_from atomic u ms ≡ Ok end))
+          → (entries_of (m ∷ ms) ≡ left) × (walk_from atomic w (m ∷ ms) ≡ Ok end)
       go false t h ih = absurd cc
       go true t h ih =
-          let rest = located_ok index (λ u. walk_beside atomic (index + 1) u left ms) (λ u. walk_from atomic u ms) (entries_of ms ≡ left) end (walk_moved atomic w (move.Other m)) ih h in
-          let alike = entries_same atomic.same atomic.decides m f t in
-          ((let tail = rest.0 in cc), rest.1)
+          let rest = located_ok index (λ u. walk_beside atomic (index + 1) u (left_after left (shown m)) ms) (λ u. walk_from atomic u ms) (entries_of ms ≡ left_after left (shown m)) end (walk_moved atomic w m) ih h in
+          (shows_first m ms ∙ front_shown left (shown m) (entries_of ms) t rest.0, rest.1)
 
   onward_ok : (index : ℕ) (next : WalkState F V → Result (WalkState F V) WalkFault) (plain : WalkState F V → Result (WalkState F V) WalkCause) (end : WalkState F V)
       → (r : Result (WalkState F V) WalkCause) → ((u : WalkState F V) → plain u ≡ Ok end → next u ≡ Ok end) → onward plain r ≡ Ok end → located index next r ≡ Ok end
@@ -486,19 +559,11 @@ module _ {F V : Type 0} (atomic : Specification F V) where
   onward_ok index next plain end (Err cause) h e = absurd cc
 
   tells : (index : ℕ) (w : WalkState F V) (left : List (Entry V)) (ms : List (Move V)) (end : WalkState F V) → entries_of ms ≡ left → walk_from atomic w ms ≡ Ok end → walk_beside atomic index w left ms ≡ Ok end
-  tells index w [] [] end h e = ap beside (ok_same atomic w end e)
-    where
-      beside : WalkState F V → Result (WalkState F V) WalkFault
-      beside u = Ok u
-  tells index w (f ∷ left) [] end h e = absurd cc
-  tells index w [] (move.Act n ∷ ms) end h e = onward_ok index (λ u. walk_beside atomic (index + 1) u [] ms) (λ u. walk_from atomic u ms) end (walk_moved atomic w (move.Act n)) (λ u k. tells (index + 1) u [] ms end h k) e
-  tells index w (f ∷ left) (move.Act n ∷ ms) end h e = onward_ok index (λ u. walk_beside atomic (index + 1) u (f ∷ left) ms) (λ u. walk_from atomic u ms) end (walk_moved atomic w (move.Act n)) (λ u k. tells (index + 1) u (f ∷ left) ms end h k) e
-  tells index w [] (move.Other m ∷ ms) end h e = absurd cc
-  tells index w (f ∷ left) (move.Other m ∷ ms) end h e =
-      let alike : m ≡ f = cc in
-      let rest : entries_of ms ≡ left = cc in
-      let test : same_entry atomic.same m f ≡ true = subst (λ z. same_entry atomic.same m z ≡ true) alike (own_entry atomic.same atomic.decides m) in
-      rw test (onward_ok index (λ u. walk_beside atomic (index + 1) u left ms) (λ u. walk_from atomic u ms) end (walk_moved atomic w (move.Other m)) (λ u k. tells (index + 1) u left ms end rest k) e)
+  tells index w left [] end h e = end_ok index w end left h e
+  tells index w left (m ∷ ms) end h e =
+      let front = shown_front left (shown m) (entries_of ms) (sym (shows_first m ms) ∙ h) in
+      let rest = left_after left (shown m) in
+      rw front.0 (onward_ok index (λ u. walk_beside atomic (index + 1) u rest ms) (λ u. walk_from atomic u ms) end (walk_moved atomic w m) (λ u k. tells (index + 1) u rest ms end front.1 k) e)
 
 -- ---- the laws
 
@@ -506,13 +571,13 @@ pub walk_tells : (F V : Type 0) → WalkTells F V
 walk_tells F V atomic history moves end = (told atomic 1 (first_walk atomic) history moves end, λ p. tells atomic 1 (first_walk atomic) history moves end p.0 p.1)
 
 pub acts_once : (F V : Type 0) → ActsOnce F V
-acts_once F V atomic history n front middle rest x = acts_once_from atomic (first_walk atomic) x.end n front middle rest x.passes
+acts_once F V atomic history n choices others front middle rest x = acts_once_from atomic (first_walk atomic) x.end n choices others front middle rest x.passes
 
 pub acted_when_answered : (F V : Type 0) → AnsweredActs F V
 acted_when_answered F V atomic history n reply front rest x = answered_acts atomic n reply front rest x.end x.passes
 
 pub no_act_after_boot : (F V : Type 0) → NoActAfterBoot F V
-no_act_after_boot F V atomic history n op args front middle later rest x = no_act_after_boot_from atomic (first_walk atomic) x.end n op args front middle later rest x.passes
+no_act_after_boot F V atomic history n op args choices boot front middle later rest is x = no_act_after_boot_from atomic (first_walk atomic) x.end n op args choices boot front middle later rest is x.passes
 
 pub no_wrong_reply : (F V : Type 0) → NoWrongReply F V
 no_wrong_reply F V atomic n op args reply front middle rest wrong moves x = no_wrong_reply_in atomic n op args reply front middle rest wrong moves x

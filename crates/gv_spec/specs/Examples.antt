@@ -1,5 +1,6 @@
 -- Worked runs and walks: the package with the one operation `Add(a, b)`, which returns `a + b`.
-use Rattle.std.specs.Prelude.{◌≡◌, ◌-◌, ◌^◌, ℕ, true, false, List, [], ◌∷◌, map, length, take, Option, Some, None, Result, Ok, Err, IsTrue, is_ok, nat_lt, if◌then◌else◌, codes}
+use Rattle.std.specs.Prelude.{◌≡◌, ◌-◌, ◌*◌, ◌^◌, ◌==◌, ℕ, zero, suc, true, false, List, [], ◌∷◌, map, length, take, Option, Some, None, Result, Ok, Err, IsTrue, is_ok, nat_lt, if◌then◌else◌, codes}
+use Rattle.std.proofs.Common.{eqb-true, eq-eqb}
 use Rattle.gv_base.specs.declared.small.Small.{Small}
 use Rattle.gv_base.specs.declared.small.SmallOp.{SmallOp}
 use Rattle.gv_base.specs.declared.small.Turn.{Turn}
@@ -11,9 +12,12 @@ use Rattle.gv_spec.specs.Move as move
 use Rattle.gv_spec.specs.Event.{Event}
 use Rattle.gv_spec.specs.Entry.{Entry}
 use Rattle.gv_spec.specs.Move.{Move}
-use Rattle.gv_spec.specs.Machine.{Answer, Next, Blocked, Stepped, GoesOn, Returns, Machine}
+use Rattle.gv_base.specs.declared.answer.Answer.{Answer}
+use Rattle.gv_base.specs.declared.answer.Answer.TheVariants.{Next, Blocked}
+use Rattle.gv_spec.specs.Machine.{Stepped, GoesOn, Returns, Machine}
+use Rattle.gv_spec.specs.Specification.{Specification}
 use Rattle.gv_spec.specs.Runs.{Recovers, Answers, Spawned, RunState, outcome_of, run_of}
-use Rattle.gv_spec.specs.Walks.{Standing, NeverCalled, Acted, Answered, WalkState, WalkFault, WalkCause, Repeated, NotCalled, ActedAlready, NotActed, WrongReply, Order, Missing, first_walk, walk_from, Explains, walk}
+use Rattle.gv_spec.specs.Walks.{Standing, NeverCalled, Acted, Answered, WalkState, WalkFault, WalkCause, Repeated, NotCalled, ActedAlready, NotActed, WrongReply, Order, Missing, BadChoice, first_walk, walk_from, Explains, walk}
 use Rattle.gv_spec.specs.Small.{sum_value, SmallThread, Hands, Sums, SmallResult, Reference, machine_of, specification_of, SmallRefinesWithoutCrash}
 
 abbrev pub add_op : SmallOp
@@ -48,19 +52,20 @@ add x y = event.Call 0 (x ∷ y ∷ [])
 -- a call before the boot, the boot, two calls, a call with one argument, and a step of each call's
 -- thread, one of them once more, and a failure of a disk that isn't there
 abbrev pub two_calls : List (Event ℕ)
-two_calls = add 1 2 ∷ event.Step 1 ∷ event.Step 1 ∷ add 1 2 ∷ add 3 4 ∷ event.Call 0 (5 ∷ []) ∷ event.Step 3 ∷ event.Step 3 ∷ event.Step 2 ∷ event.Fail 0 ∷ []
+two_calls = add 1 2 ∷ event.Step 1 0 ∷ event.Step 1 0 ∷ add 1 2 ∷ add 3 4 ∷ event.Call 0 (5 ∷ []) ∷ event.Step 3 0 ∷ event.Step 3 0 ∷ event.Step 2 0
+    ∷ event.Fail 0 ∷ []
 
 abbrev pub two_calls_history : List (Entry ℕ)
 two_calls_history = entry.Boot ∷ entry.Call 1 0 (1 ∷ 2 ∷ []) ∷ entry.Call 2 0 (3 ∷ 4 ∷ []) ∷ entry.Answer 2 7 ∷ entry.Answer 1 3 ∷ []
 
 abbrev pub two_calls_moves : List (Move ℕ)
-two_calls_moves = move.Other entry.Boot ∷ move.Other (entry.Call 1 0 (1 ∷ 2 ∷ [])) ∷ move.Act 1 ∷ move.Other (entry.Call 2 0 (3 ∷ 4 ∷ []))
-    ∷ move.Act 2 ∷ move.Other (entry.Answer 2 7) ∷ move.Other (entry.Answer 1 3) ∷ []
+two_calls_moves = move.Other entry.Boot ∷ move.Other (entry.Call 1 0 (1 ∷ 2 ∷ [])) ∷ move.Act 1 [] ∷ move.Other (entry.Call 2 0 (3 ∷ 4 ∷ []))
+    ∷ move.Act 2 [] ∷ move.Other (entry.Answer 2 7) ∷ move.Other (entry.Answer 1 3) ∷ []
 
 -- each call acts just before its answer
 abbrev pub two_calls_late_moves : List (Move ℕ)
 two_calls_late_moves = move.Other entry.Boot ∷ move.Other (entry.Call 1 0 (1 ∷ 2 ∷ [])) ∷ move.Other (entry.Call 2 0 (3 ∷ 4 ∷ []))
-    ∷ move.Act 2 ∷ move.Other (entry.Answer 2 7) ∷ move.Act 1 ∷ move.Other (entry.Answer 1 3) ∷ []
+    ∷ move.Act 2 [] ∷ move.Other (entry.Answer 2 7) ∷ move.Act 1 [] ∷ move.Other (entry.Answer 1 3) ∷ []
 
 -- how many entries the history has after so many of the events
 abbrev pub entries_after : ℕ → ℕ
@@ -92,20 +97,22 @@ pub record TwoCalls : Type 0 where
   -- what isn't possible, each time after the events before it
   pub before_boot : adder_outcome [] (add 1 2) ≡ Blocked
   pub one_argument : adder_outcome (take 5 two_calls) (event.Call 0 (5 ∷ [])) ≡ Blocked
-  pub has_ended : adder_outcome (take 7 two_calls) (event.Step 3) ≡ Blocked
+  pub has_ended : adder_outcome (take 7 two_calls) (event.Step 3 0) ≡ Blocked
   pub no_disk : adder_outcome (take 9 two_calls) (event.Fail 0) ≡ Blocked
-  pub no_thread : adder_outcome (take 9 two_calls) (event.Step 4) ≡ Blocked
+  pub no_thread : adder_outcome (take 9 two_calls) (event.Step 4 0) ≡ Blocked
   pub no_operation : adder_outcome (take 9 two_calls) (event.Call 1 (1 ∷ 2 ∷ [])) ≡ Blocked
   pub too_large : adder_outcome (take 9 two_calls) (add (2 ^ 64) 1) ≡ Blocked
 
 -- ---- a crash, and a Sum that wraps
 
 abbrev pub crashed_call : List (Event ℕ)
-crashed_call = event.Step 1 ∷ event.Step 1 ∷ add 1 2 ∷ event.Crash ∷ event.Step 2 ∷ event.Step 3 ∷ event.Step 3 ∷ add (2 ^ 64 - 1) 1 ∷ event.Step 4 ∷ []
+crashed_call = event.Step 1 0 ∷ event.Step 1 0 ∷ add 1 2 ∷ event.Crash ∷ event.Step 2 0 ∷ event.Step 3 0 ∷ event.Step 3 0 ∷ add (2 ^ 64 - 1) 1
+    ∷ event.Step 4 0 ∷ []
 
 pub record CrashedCall : Type 0 where
-  pub history : (adder_run crashed_call).history ≡ entry.Boot ∷ entry.Call 1 0 (1 ∷ 2 ∷ []) ∷ entry.Crash ∷ entry.Boot ∷ entry.Call 2 0 ((2 ^ 64 - 1) ∷ 1 ∷ []) ∷ entry.Answer 2 0 ∷ []
-  pub was_dropped : adder_outcome (take 4 crashed_call) (event.Step 2) ≡ Blocked
+  pub history : (adder_run crashed_call).history ≡ entry.Boot ∷ entry.Call 1 0 (1 ∷ 2 ∷ []) ∷ entry.Crash ∷ entry.Boot
+      ∷ entry.Call 2 0 ((2 ^ 64 - 1) ∷ 1 ∷ []) ∷ entry.Answer 2 0 ∷ []
+  pub was_dropped : adder_outcome (take 4 crashed_call) (event.Step 2 0) ≡ Blocked
 
 -- ---- Sums
 
@@ -127,7 +134,8 @@ pub record SumValues : Type 0 where
   pub nothing : two_parts (minus (part.Param 0)) 5 3 ≡ 0
   pub number : two_parts (minus (part.Number 3)) 10 0 ≡ 7
   -- `10 - a + b - 1`, from the left
-  pub from_left : sum_value (record add_op { first = part.Number 10; rest = minus (part.Param 0) ∷ plus (part.Param 1) ∷ minus (part.Number 1) ∷ [] }) (4 ∷ 7 ∷ []) ≡ 12
+  pub from_left : sum_value (record add_op { first = part.Number 10; rest = minus (part.Param 0) ∷ plus (part.Param 1) ∷ minus (part.Number 1) ∷ [] })
+      (4 ∷ 7 ∷ []) ≡ 12
   pub alone : sum_value (record add_op { first = part.Param 1; rest = [] }) (4 ∷ 7 ∷ []) ≡ 7
 
 -- ---- a package that does something else
@@ -148,23 +156,79 @@ abbrev pub refused : ℕ → WalkCause → Result (WalkState (Unit {0}) ℕ) Wal
 refused index cause = Err (record { index = index; cause = cause })
 
 pub record Refusals : Type 0 where
-  pub not_acted : adder_walk one_call (move.Other entry.Boot ∷ move.Other (entry.Call 1 0 (1 ∷ 2 ∷ [])) ∷ move.Other (entry.Answer 1 3) ∷ []) ≡ refused 3 NotActed
+  pub not_acted : adder_walk one_call (move.Other entry.Boot ∷ move.Other (entry.Call 1 0 (1 ∷ 2 ∷ [])) ∷ move.Other (entry.Answer 1 3) ∷ [])
+      ≡ refused 3 NotActed
   pub missing : adder_walk one_call start ≡ refused 3 Missing
-  pub order : adder_walk one_call (move.Other entry.Boot ∷ move.Other (entry.Call 1 0 (1 ∷ 2 ∷ [])) ∷ move.Act 1 ∷ move.Other (entry.Answer 1 4) ∷ []) ≡ refused 4 Order
+  pub order : adder_walk one_call (move.Other entry.Boot ∷ move.Other (entry.Call 1 0 (1 ∷ 2 ∷ [])) ∷ move.Act 1 [] ∷ move.Other (entry.Answer 1 4) ∷ [])
+      ≡ refused 4 Order
   pub wrong_reply : adder_walk (entry.Boot ∷ entry.Call 1 0 (1 ∷ 2 ∷ []) ∷ entry.Answer 1 4 ∷ [])
-      (move.Other entry.Boot ∷ move.Other (entry.Call 1 0 (1 ∷ 2 ∷ [])) ∷ move.Act 1 ∷ move.Other (entry.Answer 1 4) ∷ []) ≡ refused 4 WrongReply
-  pub acted_already : adder_walk one_call (move.Other entry.Boot ∷ move.Other (entry.Call 1 0 (1 ∷ 2 ∷ [])) ∷ move.Act 1 ∷ move.Act 1 ∷ []) ≡ refused 4 ActedAlready
-  pub not_called : adder_walk one_call (move.Act 1 ∷ []) ≡ refused 1 NotCalled
+      (move.Other entry.Boot ∷ move.Other (entry.Call 1 0 (1 ∷ 2 ∷ [])) ∷ move.Act 1 [] ∷ move.Other (entry.Answer 1 4) ∷ []) ≡ refused 4 WrongReply
+  pub acted_already : adder_walk one_call (move.Other entry.Boot ∷ move.Other (entry.Call 1 0 (1 ∷ 2 ∷ [])) ∷ move.Act 1 [] ∷ move.Act 1 [] ∷ [])
+      ≡ refused 4 ActedAlready
+  pub not_called : adder_walk one_call (move.Act 1 [] ∷ []) ≡ refused 1 NotCalled
   pub repeated : adder_walk (entry.Boot ∷ entry.Call 1 0 (1 ∷ 2 ∷ []) ∷ entry.Call 1 0 (1 ∷ 2 ∷ []) ∷ [])
       (move.Other entry.Boot ∷ move.Other (entry.Call 1 0 (1 ∷ 2 ∷ [])) ∷ move.Other (entry.Call 1 0 (1 ∷ 2 ∷ [])) ∷ []) ≡ refused 3 Repeated
   -- a call that a boot left behind is in the table no more
   pub left_behind : adder_walk (entry.Boot ∷ entry.Call 1 0 (1 ∷ 2 ∷ []) ∷ entry.Crash ∷ entry.Boot ∷ [])
-      (move.Other entry.Boot ∷ move.Other (entry.Call 1 0 (1 ∷ 2 ∷ [])) ∷ move.Other entry.Crash ∷ move.Other entry.Boot ∷ move.Act 1 ∷ []) ≡ refused 5 NotCalled
+      (move.Other entry.Boot ∷ move.Other (entry.Call 1 0 (1 ∷ 2 ∷ [])) ∷ move.Other entry.Crash ∷ move.Other entry.Boot ∷ move.Act 1 [] ∷ [])
+      ≡ refused 5 NotCalled
   -- between a crash and the next boot it may still act
   pub helped : IsTrue (is_ok (adder_walk (entry.Boot ∷ entry.Call 1 0 (1 ∷ 2 ∷ []) ∷ entry.Crash ∷ entry.Boot ∷ [])
-      (move.Other entry.Boot ∷ move.Other (entry.Call 1 0 (1 ∷ 2 ∷ [])) ∷ move.Other entry.Crash ∷ move.Act 1 ∷ move.Other entry.Boot ∷ [])))
+      (move.Other entry.Boot ∷ move.Other (entry.Call 1 0 (1 ∷ 2 ∷ [])) ∷ move.Other entry.Crash ∷ move.Act 1 [] ∷ move.Other entry.Boot ∷ [])))
   -- no moves at all explain the wrong answer
   pub none_explains : (moves : List (Move ℕ)) → Explains (specification_of adder) moves (entry.Boot ∷ entry.Call 1 0 (1 ∷ 2 ∷ []) ∷ entry.Answer 1 4 ∷ []) → ⊥
+
+-- ---- choices
+
+-- one field, first 5. Operation 0 raises it by one and replies what it was, operation 1 replies any number below 10,
+-- and operation 2 replies the field. A crash keeps the field or sets it to 0.
+abbrev pub drawer_applied : ℕ → List ℕ → List ℕ → ℕ → Option (ℕ × ℕ)
+drawer_applied zero args [] n = Some (suc n, n)
+drawer_applied (suc zero) args (x ∷ []) n = if nat_lt x 10 then Some (n, x) else None
+drawer_applied (suc (suc zero)) args [] n = Some (n, n)
+drawer_applied op args choices n = None
+
+abbrev pub drawer_crashed : List ℕ → ℕ → Option ℕ
+drawer_crashed (x ∷ []) n = if nat_lt x 2 then Some (n * x) else None
+drawer_crashed choices n = None
+
+abbrev pub drawer : Specification ℕ ℕ
+drawer = record {
+  first_fields = 5;
+  allows = λ op args. nat_lt op 3;
+  applied = drawer_applied;
+  crashed = drawer_crashed;
+  same = ◌==◌;
+  decides = λ x y. (eqb-true x y, eq-eqb x y);
+}
+
+abbrev pub drawer_walk : ℕ → ℕ → List (Move ℕ) → Result (WalkState ℕ ℕ) WalkFault
+drawer_walk op reply moves = walk drawer (entry.Boot ∷ entry.Call 1 op [] ∷ entry.Answer 1 reply ∷ []) moves
+
+-- a boot, a call, its act and its answer
+abbrev pub drawn : List ℕ → ℕ → List ℕ → ℕ → List (Move ℕ)
+drawn at_boot op choices reply = move.Boot at_boot ∷ move.Other (entry.Call 1 op []) ∷ move.Act 1 choices ∷ move.Other (entry.Answer 1 reply) ∷ []
+
+abbrev pub undrawn : ℕ → WalkCause → Result (WalkState ℕ ℕ) WalkFault
+undrawn index cause = Err (record { index = index; cause = cause })
+
+pub record Choices : Type 0 where
+  pub explained : IsTrue (is_ok (drawer_walk 1 7 (drawn (1 ∷ []) 1 (7 ∷ []) 7)))
+  pub largest : IsTrue (is_ok (drawer_walk 1 9 (drawn (1 ∷ []) 1 (9 ∷ []) 9)))
+  pub its_bound : drawer_walk 1 10 (drawn (1 ∷ []) 1 (10 ∷ []) 10) ≡ undrawn 3 BadChoice
+  pub none : drawer_walk 1 7 (drawn (1 ∷ []) 1 [] 7) ≡ undrawn 3 BadChoice
+  pub two : drawer_walk 1 7 (drawn (1 ∷ []) 1 (7 ∷ 7 ∷ []) 7) ≡ undrawn 3 BadChoice
+  pub not_asked : drawer_walk 2 5 (drawn (1 ∷ []) 2 (0 ∷ []) 5) ≡ undrawn 3 BadChoice
+  pub another_reply : drawer_walk 1 8 (drawn (1 ∷ []) 1 (7 ∷ []) 8) ≡ undrawn 4 WrongReply
+  -- a crash chooses too
+  pub kept : IsTrue (is_ok (drawer_walk 2 5 (drawn (1 ∷ []) 2 [] 5)))
+  pub cleared : drawer_walk 2 5 (drawn (0 ∷ []) 2 [] 5) ≡ undrawn 4 WrongReply
+  pub beyond : drawer_walk 2 5 (drawn (2 ∷ []) 2 [] 5) ≡ undrawn 1 BadChoice
+  pub no_choice : drawer_walk 2 5 (move.Other entry.Boot ∷ []) ≡ undrawn 1 BadChoice
+  -- other causes come first
+  pub not_called_first : drawer_walk 1 7 (move.Boot (1 ∷ []) ∷ move.Act 1 [] ∷ []) ≡ undrawn 2 NotCalled
+  pub acted_first : drawer_walk 1 7 (move.Boot (1 ∷ []) ∷ move.Other (entry.Call 1 1 []) ∷ move.Act 1 (7 ∷ []) ∷ move.Act 1 [] ∷ []) ≡ undrawn 4 ActedAlready
+  pub order_first : drawer_walk 1 7 (move.Boot (1 ∷ []) ∷ move.Boot (2 ∷ []) ∷ []) ≡ undrawn 2 Order
 
 -- ---- threads that start threads
 
@@ -173,9 +237,9 @@ pub data Starter : Type 0 where
   Starts : Starter
   Ends : Starter
 
-abbrev pub starter_stepped : Starter → Unit {0} → Answer (Stepped (Unit {0}) Starter (Unit {0}))
-starter_stepped Starts world = Next (GoesOn world Ends (Ends ∷ []))
-starter_stepped Ends world = Next (Returns world tt)
+abbrev pub starter_stepped : ℕ → Starter → Unit {0} → Answer (Stepped (Unit {0}) Starter (Unit {0}))
+starter_stepped extra Starts world = Next (GoesOn world Ends (Ends ∷ []))
+starter_stepped extra Ends world = Next (Returns world tt)
 
 -- recovery and each call start a thread, then they return; a call replies 5
 abbrev pub starters : Machine (Unit {0}) Starter (Unit {0}) ℕ
@@ -194,12 +258,14 @@ starters_run events = run_of starters (λ op args. true) events
 
 pub record StartedThreads : Type 0 where
   -- thread 1 starts thread 2, which ends without a boot
-  pub second : (starters_run (event.Step 1 ∷ [])).threads ≡ Some (Recovers, Ends) ∷ Some (Spawned, Ends) ∷ []
-  pub no_boot : (starters_run (event.Step 1 ∷ event.Step 2 ∷ [])).receiver ≡ None
+  pub second : (starters_run (event.Step 1 0 ∷ [])).threads ≡ Some (Recovers, Ends) ∷ Some (Spawned, Ends) ∷ []
+  pub no_boot : (starters_run (event.Step 1 0 ∷ event.Step 2 0 ∷ [])).receiver ≡ None
   -- a call in thread 3 starts thread 4, which ends after the call has answered and tells nothing
-  pub history : (starters_run (event.Step 1 ∷ event.Step 1 ∷ event.Step 2 ∷ event.Call 0 [] ∷ event.Step 3 ∷ event.Step 3 ∷ event.Step 4 ∷ [])).history
+  pub history : (starters_run (event.Step 1 0 ∷ event.Step 1 0 ∷ event.Step 2 0 ∷ event.Call 0 [] ∷ event.Step 3 0 ∷ event.Step 3 0 ∷ event.Step 4 0
+      ∷ [])).history
       ≡ entry.Boot ∷ entry.Call 1 0 [] ∷ entry.Answer 1 5 ∷ []
-  pub ended : (starters_run (event.Step 1 ∷ event.Step 1 ∷ event.Step 2 ∷ event.Call 0 [] ∷ event.Step 3 ∷ event.Step 3 ∷ event.Step 4 ∷ [])).threads
+  pub ended : (starters_run (event.Step 1 0 ∷ event.Step 1 0 ∷ event.Step 2 0 ∷ event.Call 0 [] ∷ event.Step 3 0 ∷ event.Step 3 0 ∷ event.Step 4 0
+      ∷ [])).threads
       ≡ None ∷ None ∷ None ∷ None ∷ []
 
 -- ---- two disks, of which one may fail
@@ -214,7 +280,7 @@ abbrev pub two_disks : Machine (Option ℕ) (Unit {0}) (Unit {0}) ℕ
 two_disks = record {
   first_world = None;
   recovery = tt;
-  stepped = λ thread world. Next (Returns world tt);
+  stepped = λ extra thread world. Next (Returns world tt);
   called = λ receiver op args world. None;
   reply = λ result world. Ok 0;
   crashed = λ world. world;

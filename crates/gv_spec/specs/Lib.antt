@@ -6,6 +6,7 @@ pub mod History
 pub mod Machine
 pub mod Meaning
 pub mod Move
+pub mod Plain
 pub mod Reading
 pub mod Refines
 pub mod RunLaws
@@ -15,3 +16,4 @@ pub mod SmallSpec
 pub mod Specification
 pub mod WalkLaws
 pub mod Walks
+pub mod WrongDefinitions

@@ -2,13 +2,8 @@
 -- starts, and what a crash leaves. W is its world (heap, locks, disks), T a thread, R what a
 -- thread's first frame returns, V the values that calls take and give.
 use Rattle.std.specs.Prelude.{ℕ, List, Option, Result}
+use Rattle.gv_base.specs.declared.answer.Answer.{Answer}
 use Rattle.gv_base.specs.declared.reason.Reason.{Reason}
-
--- what comes of asking for a step: its outcome, or that it can't be taken now, or that it is undefined
-pub data Answer (A : Type 0) : Type 0 where
-  Next : A → Answer A
-  Blocked : Answer A
-  Undefined : Reason → Answer A
 
 -- what a thread's step leaves
 pub data Stepped (W T R : Type 0) : Type 0 where
@@ -22,8 +17,8 @@ pub record Machine (W T R V : Type 0) : Type 0 where
   pub first_world : W
   -- a thread that is about to run the package's recovery
   pub recovery : T
-  -- one step of a thread
-  pub stepped : T → W → Answer (Stepped W T R)
+  -- one step of a thread, with so much extra room for the slice that it makes larger, if it makes one
+  pub stepped : ℕ → T → W → Answer (Stepped W T R)
   -- the thread of a call on the receiver that recovery returned, and the world with fresh buffers
   -- for its arguments; none where there is no such operation or it doesn't take such arguments
   pub called : R → ℕ → List V → W → Option (W × T)

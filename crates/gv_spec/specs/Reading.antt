@@ -34,7 +34,8 @@ abbrev pub operations : List Token → Read (List SmallOp)
 operations ts = all_of no_operation operation ts
 
 abbrev pub spec_head : List Token → Option (List Token)
-spec_head ts = option_and_then (λ a. option_and_then (λ b. behind_all (plain (codes "; disks 0 ;")) b.1) (word_at is_name a)) (behind_all (plain (codes "spec")) ts)
+spec_head ts = option_and_then (λ a. option_and_then (λ b. behind_all (plain (codes "; disks 0 ;")) b.1) (word_at is_name a))
+    (behind_all (plain (codes "spec")) ts)
 
 -- nothing more
 abbrev pub ended : List Token → Option (Unit {0})
@@ -45,4 +46,6 @@ abbrev pub spec_end : List Token → Option (Unit {0})
 spec_end ts = option_and_then ended (behind_all (plain (codes "crash { }")) ts)
 
 abbrev pub spec_ops : List Token → Option (List SmallOp)
-spec_ops ts = option_and_then (λ a. option_and_then (λ m. option_and_then (λ _. option_map (λ _. m.0) (distinct_names (map (λ op. op.name) m.0))) (spec_end m.1)) (operations a)) (spec_head ts)
+spec_ops ts =
+    option_and_then (λ a. option_and_then (λ m. option_and_then (λ _. option_map (λ _. m.0) (distinct_names (map (λ op. op.name) m.0)))
+    (spec_end m.1)) (operations a)) (spec_head ts)

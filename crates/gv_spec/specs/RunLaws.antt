@@ -3,7 +3,8 @@ use Rattle.std.specs.Prelude.{◌≡◌, ℕ, ◌≤◌, Bool, List, ◌∷◌, 
 use Rattle.gv_base.specs.declared.reason.Reason.{Reason}
 use Rattle.gv_spec.specs.Event as event
 use Rattle.gv_spec.specs.Event.{Event}
-use Rattle.gv_spec.specs.Machine.{Undefined, Machine}
+use Rattle.gv_base.specs.declared.answer.Answer.TheVariants.{Undefined}
+use Rattle.gv_spec.specs.Machine.{Machine}
 use Rattle.gv_spec.specs.Runs.{RunState, living, crash_made, outcome_of, Happens, IsImpossible, after, run_of}
 
 module _ (W T R V : Type 0) where
@@ -19,8 +20,8 @@ module _ (W T R V : Type 0) where
 
   -- no step of a thread that doesn't exist, has ended or was dropped
   abbrev pub NoStepOfEnded : Type 0
-  NoStepOfEnded = (machine : Machine W T R V) (allows : ℕ → List V → Bool) (s : RunState W T R V) (number : ℕ)
-      → living s.threads number ≡ None → IsImpossible machine allows s (event.Step number)
+  NoStepOfEnded = (machine : Machine W T R V) (allows : ℕ → List V → Bool) (s : RunState W T R V) (number extra : ℕ)
+      → living s.threads number ≡ None → IsImpossible machine allows s (event.Step number extra)
 
   -- a thread that has ended or was dropped stays so, and no other gets its number
   abbrev pub EndedStays : Type 0

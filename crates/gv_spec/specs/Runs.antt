@@ -5,7 +5,9 @@ use Rattle.gv_spec.specs.Event as event
 use Rattle.gv_spec.specs.Entry as entry
 use Rattle.gv_spec.specs.Event.{Event}
 use Rattle.gv_spec.specs.Entry.{Entry}
-use Rattle.gv_spec.specs.Machine.{Answer, Next, Blocked, Undefined, Stepped, GoesOn, Returns, Machine}
+use Rattle.gv_base.specs.declared.answer.Answer.{Answer}
+use Rattle.gv_base.specs.declared.answer.Answer.TheVariants.{Next, Blocked, Undefined}
+use Rattle.gv_spec.specs.Machine.{Stepped, GoesOn, Returns, Machine}
 
 -- what a thread is there for
 pub data Role : Type 0 where
@@ -121,9 +123,9 @@ module _ {W T R V : Type 0} (machine : Machine W T R V) where
   step_taken s number role (Undefined reason) = Undefined reason
 
   -- only a thread that exists, has not ended and was not dropped
-  abbrev pub step_made : RunState W T R V → ℕ → Option (Role × T) → Answer (RunState W T R V)
-  step_made s number None = Blocked
-  step_made s number (Some thread) = step_taken s number thread.0 (machine.stepped thread.1 s.world)
+  abbrev pub step_made : RunState W T R V → ℕ → ℕ → Option (Role × T) → Answer (RunState W T R V)
+  step_made s number extra None = Blocked
+  step_made s number extra (Some thread) = step_taken s number thread.0 (machine.stepped extra thread.1 s.world)
 
   -- only while booted, and only a call that is allowed
   abbrev pub call_made : RunState W T R V → ℕ → List V → Option R → Bool → Answer (RunState W T R V)
@@ -136,7 +138,7 @@ module _ {W T R V : Type 0} (machine : Machine W T R V) (allows : ℕ → List V
   -- what comes of an event in a state with no undefined step
   abbrev pub event_made : RunState W T R V → Event V → Answer (RunState W T R V)
   event_made s (event.Call op args) = call_made machine s op args s.receiver (allows op args)
-  event_made s (event.Step number) = step_made machine s number (living s.threads number)
+  event_made s (event.Step number extra) = step_made machine s number extra (living s.threads number)
   event_made s event.Crash = Next (crash_made machine s)
   event_made s (event.Fail disk) = disk_failed s (machine.failed disk s.world)
 

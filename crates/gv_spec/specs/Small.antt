@@ -10,8 +10,11 @@ use Rattle.gv_base.specs.declared.small.SmallOp.{SmallOp}
 use Rattle.gv_base.specs.declared.small.Turn.{Turn}
 use Rattle.gv_base.specs.declared.small.Part.{Part}
 use Rattle.gv_base.specs.declared.small.Part.TheVariants as part
-use Rattle.gv_spec.specs.Machine.{Answer, Next, Stepped, GoesOn, Returns, Machine}
+use Rattle.gv_base.specs.declared.answer.Answer.{Answer}
+use Rattle.gv_base.specs.declared.answer.Answer.TheVariants.{Next}
+use Rattle.gv_spec.specs.Machine.{Stepped, GoesOn, Returns, Machine}
 use Rattle.gv_spec.specs.Specification.{Specification}
+use Rattle.gv_spec.specs.Plain.{unless_chosen}
 use Rattle.gv_spec.specs.Refines.{Refines, RefinesWithoutCrash}
 
 -- ---- Sums
@@ -56,10 +59,11 @@ pub data SmallResult : Type 0 where
   Reference : ℕ → SmallResult
   Word : ℕ → SmallResult
 
-abbrev pub small_stepped : SmallThread → Unit {0} → Answer (Stepped (Unit {0}) SmallThread SmallResult)
-small_stepped Makes world = Next (GoesOn world (Hands 1) [])
-small_stepped (Hands object) world = Next (Returns world (Reference object))
-small_stepped (Sums op args) world = Next (Returns world (Word (sum_value op args)))
+-- no step makes a slice larger, so each takes any extra room
+abbrev pub small_stepped : ℕ → SmallThread → Unit {0} → Answer (Stepped (Unit {0}) SmallThread SmallResult)
+small_stepped extra Makes world = Next (GoesOn world (Hands 1) [])
+small_stepped extra (Hands object) world = Next (Returns world (Reference object))
+small_stepped extra (Sums op args) world = Next (Returns world (Word (sum_value op args)))
 
 abbrev pub small_reply : SmallResult → Unit {0} → Result ℕ Reason
 small_reply (Reference object) world = Err reason.Kind
@@ -79,13 +83,13 @@ machine_of small = record {
 
 -- ---- the specification
 
--- it has no fields, and an operation replies its Sum
+-- it has no fields, an operation replies its Sum, and nothing is chosen
 abbrev pub specification_of : Small → Specification (Unit {0}) ℕ
 specification_of small = record {
   first_fields = tt;
   allows = λ number args. is_some (op_taking small number args);
-  applied = λ number args fields. (fields, option_map_or (λ op. sum_value op args) (op_taking small number args) 0);
-  crashed = λ fields. fields;
+  applied = λ number args choices fields. unless_chosen choices (fields, option_map_or (λ op. sum_value op args) (op_taking small number args) 0);
+  crashed = λ choices fields. unless_chosen choices fields;
   same = ◌==◌;
   decides = λ x y. (eqb-true x y, eq-eqb x y);
 }

@@ -1,9 +1,9 @@
 -- The walk along a list of moves: which calls are under way, what has acted, and what refuses a move.
-use Rattle.std.specs.Prelude.{◌≡◌, ℕ, ◌+◌, if◌then◌else◌, List, [], ◌∷◌, ◌==◌, Result, Ok, Err}
+use Rattle.std.specs.Prelude.{◌≡◌, ℕ, ◌+◌, Bool, true, false, if◌then◌else◌, List, [], ◌∷◌, ◌==◌, Option, Some, None, Result, Ok, Err}
 use Rattle.gv_spec.specs.Entry as entry
 use Rattle.gv_spec.specs.Move as move
 use Rattle.gv_spec.specs.Entry.{Entry, same_entry}
-use Rattle.gv_spec.specs.Move.{Move, entries_of}
+use Rattle.gv_spec.specs.Move.{Move, shown, entries_of}
 use Rattle.gv_spec.specs.Specification.{Specification}
 
 -- where the call under a number stands
@@ -37,6 +37,8 @@ pub data WalkCause : Type 0 where
   Order : WalkCause
   -- no move is left, and the history goes on
   Missing : WalkCause
+  -- choices that the operation of an act, or the crash that a boot ends, doesn't allow
+  BadChoice : WalkCause
 
 -- the first move that is refused, counted from 1, and why
 pub record WalkFault : Type 0 where
@@ -65,6 +67,18 @@ abbrev pub located : {A : Type 0} → ℕ → (A → Result A WalkFault) → Res
 located index next (Ok w) = next w
 located index next (Err cause) = Err (record { index = index; cause = cause })
 
+-- whether a move may stand here by what it shows: it shows nothing, or the history's next entry
+abbrev pub in_order : {V : Type 0} → (V → V → Bool) → List (Entry V) → Option (Entry V) → Bool
+in_order same left None = true
+in_order same [] (Some e) = false
+in_order same (next ∷ left) (Some e) = same_entry same e next
+
+-- what is left of the history behind it
+abbrev pub left_after : {V : Type 0} → List (Entry V) → Option (Entry V) → List (Entry V)
+left_after left None = left
+left_after [] (Some e) = []
+left_after (next ∷ left) (Some e) = left
+
 module _ {F V : Type 0} (atomic : Specification F V) where
   abbrev pub first_walk : WalkState F V
   first_walk = record { fields = atomic.first_fields; table = λ n. NeverCalled }
@@ -74,14 +88,15 @@ module _ {F V : Type 0} (atomic : Specification F V) where
   walk_called w n op args NeverCalled = Ok (record w { table = entered w.table n (Called op args) })
   walk_called w n op args _ = Err Repeated
 
-  -- the operation is applied to the fields, and its reply kept
-  abbrev pub walk_acted : WalkState F V → ℕ → Standing V → Result (WalkState F V) WalkCause
-  walk_acted w n (Called op args) = Ok (record {
-    fields = (atomic.applied op args w.fields).0;
-    table = entered w.table n (Acted (atomic.applied op args w.fields).1);
-  })
-  walk_acted w n (Acted reply) = Err ActedAlready
-  walk_acted w n _ = Err NotCalled
+  -- the operation is applied to the fields, and its reply kept; the choices are tested last
+  abbrev pub acted_to : WalkState F V → ℕ → Option (F × V) → Result (WalkState F V) WalkCause
+  acted_to w n None = Err BadChoice
+  acted_to w n (Some after) = Ok (record { fields = after.0; table = entered w.table n (Acted after.1) })
+
+  abbrev pub walk_acted : WalkState F V → ℕ → List ℕ → Standing V → Result (WalkState F V) WalkCause
+  walk_acted w n choices (Called op args) = acted_to w n (atomic.applied op args choices w.fields)
+  walk_acted w n choices (Acted reply) = Err ActedAlready
+  walk_acted w n choices _ = Err NotCalled
 
   -- the answer is the reply that the act kept
   abbrev pub walk_answered : WalkState F V → ℕ → V → Standing V → Result (WalkState F V) WalkCause
@@ -90,36 +105,45 @@ module _ {F V : Type 0} (atomic : Specification F V) where
   walk_answered w n reply (Called op args) = Err NotActed
   walk_answered w n reply _ = Err NotCalled
 
+  -- the crash has its effect on the fields, and the table is emptied
+  abbrev pub booted_to : WalkState F V → Option F → Result (WalkState F V) WalkCause
+  booted_to w None = Err BadChoice
+  booted_to w (Some fields) = Ok (record { fields = fields; table = λ n. dropped (w.table n) })
+
   -- the walk after one move, or why it refuses the move
   abbrev pub walk_moved : WalkState F V → Move V → Result (WalkState F V) WalkCause
-  walk_moved w (move.Act n) = walk_acted w n (w.table n)
+  walk_moved w (move.Act n choices) = walk_acted w n choices (w.table n)
+  walk_moved w (move.Boot choices) = booted_to w (atomic.crashed choices w.fields)
   walk_moved w (move.Other (entry.Call n op args)) = walk_called w n op args (w.table n)
   walk_moved w (move.Other (entry.Answer n reply)) = walk_answered w n reply (w.table n)
   walk_moved w (move.Other entry.Crash) = Ok w
-  walk_moved w (move.Other entry.Boot) = Ok (record { fields = atomic.crashed w.fields; table = λ n. dropped (w.table n) })
+  walk_moved w (move.Other entry.Boot) = booted_to w (atomic.crashed [] w.fields)
 
   -- the walk after a list of moves, or the first cause
   abbrev pub walk_from : WalkState F V → List (Move V) → Result (WalkState F V) WalkCause
   walk_from w [] = Ok w
   walk_from w (m ∷ moves) = onward (λ next. walk_from next moves) (walk_moved w m)
 
-  -- the moves explain the history: without its acts they are the history, and the walk refuses none
+  -- the moves explain the history: what they show is the history, and the walk refuses none
   pub record Explains (moves : List (Move V)) (history : List (Entry V)) : Type 0 where
     pub entries : entries_of moves ≡ history
     pub end : WalkState F V
     pub passes : walk_from first_walk moves ≡ Ok end
 
-  -- the same question asked move by move, which tells the first fault: an entry that isn't the
-  -- history's next one is refused before the walk's own causes, and history left over after the last move
+  -- The same question asked move by move, which tells the first fault: an entry that isn't the history's
+  -- next one is refused before the walk's own causes.
+  abbrev pub moved_beside : WalkState F V → List (Entry V) → Move V → Result (WalkState F V) WalkCause
+  moved_beside w left m = if in_order atomic.same left (shown m) then walk_moved w m else Err Order
+
+  -- after the last move no history may be left
+  abbrev pub at_end : ℕ → WalkState F V → List (Entry V) → Result (WalkState F V) WalkFault
+  at_end index w [] = Ok w
+  at_end index w (e ∷ left) = Err (record { index = index; cause = Missing })
+
   abbrev pub walk_beside : ℕ → WalkState F V → List (Entry V) → List (Move V) → Result (WalkState F V) WalkFault
-  walk_beside index w [] [] = Ok w
-  walk_beside index w (e ∷ left) [] = Err (record { index = index; cause = Missing })
-  walk_beside index w left (move.Act n ∷ moves) = located index (λ next. walk_beside (index + 1) next left moves) (walk_moved w (move.Act n))
-  walk_beside index w [] (move.Other m ∷ moves) = Err (record { index = index; cause = Order })
-  walk_beside index w (e ∷ left) (move.Other m ∷ moves) =
-      if same_entry atomic.same m e
-      then located index (λ next. walk_beside (index + 1) next left moves) (walk_moved w (move.Other m))
-      else Err (record { index = index; cause = Order })
+  walk_beside index w left [] = at_end index w left
+  walk_beside index w left (m ∷ moves) =
+      located index (λ next. walk_beside (index + 1) next (left_after left (shown m)) moves) (moved_beside w left m)
 
   -- the state after all moves, or the first fault
   abbrev pub walk : List (Entry V) → List (Move V) → Result (WalkState F V) WalkFault

@@ -4,8 +4,9 @@ ghost use Rattle.std.specs.Prelude.{◌≡◌, ◌↔◌, IfOk, IsTrue};
 ghost use Rattle.gv_spec.specs.declared.entry.Entry.TheVariants as entry;
 
 use crate::meaning::takes;
+use gv_atomic::Spec;
 use gv_base::{List, NoMemory};
-use gv_terms::{Spec, Value, copy_list, same_lists};
+use gv_terms::{Value, copy_list, same_lists};
 use std::alloc::Global;
 
 /// An entry of a history: a call of an operation started under a number, counted from 1; the call

@@ -2,12 +2,14 @@
 
 ghost use Rattle.gv_spec.specs.RunLaws.{ChangesNothing, NoCallBeforeBoot, NoStepOfEnded, EndedStays, CrashHappens, CrashDrops, NoFail, UndefinedStays, DefinedThroughout};
 ghost use Rattle.gv_spec.specs.WalkLaws.{WalkTells, ActsOnce, AnsweredActs, NoActAfterBoot, NoWrongReply, OneCallReplies};
+ghost use Rattle.gv_spec.specs.Plain.{SameWalks, ErasedExplains, SameExplained};
+ghost use Rattle.gv_spec.specs.WrongDefinitions.{WrongWalks, WrongRuns};
 ghost use Rattle.gv_spec.specs.Atomic.{WalksKeepSorts, FirstCallReplies};
-ghost use Rattle.gv_spec.specs.Examples.{TwoCalls, CrashedCall, SumValues, WrongPackage, Refusals, StartedThreads, SecondFailure};
+ghost use Rattle.gv_spec.specs.Examples.{TwoCalls, CrashedCall, SumValues, WrongPackage, Refusals, Choices, StartedThreads, SecondFailure};
 ghost use Rattle.gv_spec.specs.Small.{AgreeOps, SmallRefines, SmallRefinesWithoutCrash, RefinesOnlySameReplies};
 
+use gv_atomic::Spec;
 use gv_base::Small;
-use gv_terms::Spec;
 
 /// A package of the small form refines a specification of the small form that has the same
 /// operations with the same Sums: in every run, and so in every run without a crash.
@@ -61,6 +63,15 @@ pub fn explanations<F, V>()
     ensures one_call { OneCallReplies F V }
 {}
 
+/// Over a specification that chooses nothing, histories are explained with choices exactly as they are
+/// without: moves that choose nothing are walked alike, and moves that pass have chosen nothing.
+#[tactic(auto, using(crate::proofs::PlainLaws::walks_are_same, crate::proofs::PlainLaws::explains_erased, crate::proofs::PlainLaws::explained_same))]
+pub fn choosing_nothing<F, V>()
+    ensures walks { SameWalks F V }
+    ensures erased { ErasedExplains F V }
+    ensures explained { SameExplained F V }
+{}
+
 /// What holds of walks over a specification that is made of terms: the fields stay of their sorts,
 /// and one call after a boot has an explanation exactly where it answers with its operation's reply
 /// on the first fields after a crash.
@@ -71,14 +82,23 @@ pub fn written_walks(spec: &Spec)
 
 /// Worked runs, computed: two calls at the same time with their explanation, a call that a crash
 /// drops, values of Sums, a package that doesn't refine a specification, what refuses moves and
-/// where, threads that start threads, and a second failure of a disk.
-#[tactic(auto, using(crate::proofs::Examples::two_calls_run, crate::proofs::Examples::crashed_call_run, crate::proofs::Examples::walk_refusals, crate::proofs::Examples::second_failure))]
+/// where, choices, threads that start threads, and a second failure of a disk.
+#[tactic(auto, using(crate::proofs::Examples::two_calls_run, crate::proofs::Examples::crashed_call_run, crate::proofs::Examples::walk_refusals, crate::proofs::Examples::drawn_choices, crate::proofs::Examples::second_failure))]
 pub fn worked()
     ensures two_calls { TwoCalls }
     ensures crashed_call { CrashedCall }
     ensures sums { SumValues }
     ensures wrong_package { WrongPackage }
     ensures refusals { Refusals }
+    ensures choices { Choices }
     ensures started { StartedThreads }
     ensures second_failure { SecondFailure }
+{}
+
+/// Wrong definitions, computed: with one equation of the walk or of runs changed, these moves would
+/// explain what nothing explains, and these runs would show what no run shows.
+#[tactic(auto, using(crate::proofs::WrongDefinitions::wrong_walks, crate::proofs::WrongDefinitions::wrong_runs))]
+pub fn wrong_definitions()
+    ensures walks { WrongWalks }
+    ensures runs { WrongRuns }
 {}

@@ -2,18 +2,19 @@
 #![tactic(auto)]
 
 mod entry;
+mod event;
 mod explanation;
 mod laws;
 mod meaning;
-#[cfg(test)]
-mod meaning_rows;
 mod small_spec;
 
 pub use entry::Entry;
+pub use event::Event;
 pub use explanation::Move;
-pub use gv_terms::{Assign, Field, Op, Spec, State, Var};
+pub use gv_atomic::{Assign, Field, Op, Pick, Spec, SpecFault, State, Var, make_spec};
 pub use laws::{
-    explanations, impossible_events, lasting, small_refines, small_replies, worked, written_walks,
+    choosing_nothing, explanations, impossible_events, lasting, small_refines, small_replies,
+    worked, written_walks, wrong_definitions,
 };
 pub use meaning::{apply, crashed, init, meets_where, takes};
 pub use small_spec::read_small_spec;

@@ -1,15 +1,18 @@
 //! What a specification means: its first fields, its operations, and its crash.
 
-ghost use Rattle.std.specs.Prelude.{◌≡◌, ◌<◌, ◌++◌, length, slice_get, slice_set, IfOk, IfSome, IsTrue, OnOk};
+ghost use Rattle.std.specs.Prelude.{◌≡◌, ◌<◌, ◌++◌, length, slice_get, slice_set, is_some, option_map, IfOk, IfSome, IsTrue, OnOk};
+ghost use Rattle.std.specs.Bool.{OnTrue};
 ghost use Rattle.std.specs.List.{All};
-ghost use Rattle.gv_terms.specs.Specification.{assigned, fields_bound, args_bound, first_fields, crashed, reply_value};
-ghost use Rattle.gv_terms.specs.Specification.{IsOpWithin};
+ghost use Rattle.gv_atomic.specs.Choices.{fits, limit_of, picks_bound, are_allowed};
+ghost use Rattle.gv_atomic.specs.Specification.{assigned, fields_bound, args_bound, op_before, first_fields, crash_chooses, crash_fields, reply_value};
+ghost use Rattle.gv_atomic.specs.Specification.{IsOpWithin, ArePicksWithin};
 ghost use Rattle.gv_terms.specs.Values.{sort_of_value};
 ghost use Rattle.gv_spec.specs.Atomic.{are_of, are_args, atomic_of, field_vars, reply_sort, EachOfOp, EachOfCrash};
-ghost use Rattle.gv_spec.specs.Meaning.{allows, fields_after, reply_of};
+ghost use Rattle.gv_spec.specs.Meaning.{allows, chooses, fields_after, reply_of};
 
+use gv_atomic::{Assign, Field, Op, Pick, Spec, State, Var};
 use gv_base::{List, NoMemory};
-use gv_terms::{Assign, Binding, Env, Field, Op, Spec, State, Term, TermStore, Value, Var, eval};
+use gv_terms::{Binding, Env, Term, TermStore, Value, eval};
 use std::alloc::Global;
 
 /// The first fields, each of its field's sort.
@@ -56,48 +59,80 @@ pub fn meets_where(alloc: Global, spec: &Spec, op: u32, args: &[Value]) -> Resul
     Ok(value.truth())
 }
 
-/// The fields after an operation with these arguments, and its reply; `Unit` where it has none. Each
-/// field that it assigns has the value of its own assignment's term, which speaks of the old fields.
-/// Fields of their sorts stay so, and the reply has its term's sort.
+/// The fields after an operation with these arguments and choices, and its reply, which is `Unit` where it
+/// has none; None exactly where its picks don't allow the choices. Each field that it assigns has the value
+/// of its own assignment's term, which speaks of the old fields, the arguments and the choices. Fields of
+/// their sorts stay so, and the reply has its term's sort.
 pub fn apply(
     alloc: Global,
     spec: &Spec,
     s: &State,
     op: u32,
     args: &[Value],
-) -> Result<(State, Value), NoMemory>
+    choices: &[u64],
+) -> Result<Option<(State, Value)>, NoMemory>
     requires { op < length spec.now.ops }
-    ensures fields { IfOk result (λ r. r.0.values ≡ fields_after spec.now op args.now s.now.values) }
-    ensures reply { IfOk result (λ r. r.1 ≡ reply_of spec.now op args.now s.now.values) }
-    ensures atomic { IfOk result (λ r. (atomic_of spec.now).applied op args.now s.now.values ≡ (r.0.values, r.1)) }
-    ensures each { IfOk result (λ r. EachOfOp spec.now op args.now s.now.values r.0.values) }
-    ensures sorts { IsTrue (are_of (field_vars spec.now) s.now.values) → IfOk result (λ r. IsTrue (are_of (field_vars spec.now) r.0.values)) }
-    ensures reply_sort { IfOk result (λ r. sort_of_value r.1 ≡ reply_sort spec.now op) }
+    ensures allowed { IfOk result (λ o. is_some o ≡ chooses spec.now op args.now choices.now s.now.values) }
+    ensures fields { IfOk result (λ o. IfSome o (λ r. r.0.values ≡ fields_after spec.now op args.now choices.now s.now.values)) }
+    ensures reply { IfOk result (λ o. IfSome o (λ r. r.1 ≡ reply_of spec.now op args.now choices.now s.now.values)) }
+    ensures atomic { IfOk result (λ o. (atomic_of spec.now).applied op args.now choices.now s.now.values ≡ option_map (λ r. (r.0.values, r.1)) o) }
+    ensures each { IfOk result (λ o. IfSome o (λ r. EachOfOp spec.now op args.now choices.now s.now.values r.0.values)) }
+    ensures sorts { IsTrue (are_of (field_vars spec.now) s.now.values) → IfOk result (λ o. IfSome o (λ r. IsTrue (are_of (field_vars spec.now) r.0.values))) }
+    ensures reply_sort { IfOk result (λ o. IfSome o (λ r. sort_of_value r.1 ≡ reply_sort spec.now op)) }
 {
     let operation = operation(spec, op);
-    let mut bindings = Vec::new(alloc);
-    bind_fields(
+    let mut env = before(alloc, spec, s, operation, args)?;
+    if !choose(
         alloc,
-        &mut bindings,
-        spec.fields.as_slice(),
-        s.values.as_slice(),
-    )?;
-    bind_args(alloc, &mut bindings, operation.params.as_slice(), args)?;
-    let env = Env {
-        bindings: List::from_vec(bindings),
-    };
+        &spec.store,
+        &mut env,
+        operation.picks.as_slice(),
+        choices,
+    )? {
+        return Ok(None);
+    }
     let after = assign(alloc, &spec.store, operation.body.as_slice(), &env, s)?;
     let reply = value_or_unit(alloc, &spec.store, operation.reply, &env)?;
-    Ok((after, reply))
+    Ok(Some((after, reply)))
 }
 
-/// The fields after a crash and the recovery from it. Each field that the crash assigns has the value
-/// of its own assignment's term, which speaks of the old fields. Fields of their sorts stay so.
-pub fn crashed(alloc: Global, spec: &Spec, s: &State) -> Result<State, NoMemory>
-    ensures value { IfOk result (λ r. r.values ≡ crashed spec.now s.now.values) }
-    ensures atomic { IfOk result (λ r. r.values ≡ (atomic_of spec.now).crashed s.now.values) }
-    ensures each { IfOk result (λ r. EachOfCrash spec.now s.now.values r.values) }
-    ensures sorts { IsTrue (are_of (field_vars spec.now) s.now.values) → IfOk result (λ r. IsTrue (are_of (field_vars spec.now) r.values)) }
+/// The fields after a crash with these choices and the recovery from it; None exactly where its picks don't
+/// allow the choices. Each field that the crash assigns has the value of its own assignment's term, which
+/// speaks of the old fields and the choices. Fields of their sorts stay so.
+pub fn crashed(
+    alloc: Global,
+    spec: &Spec,
+    s: &State,
+    choices: &[u64],
+) -> Result<Option<State>, NoMemory>
+    ensures allowed { IfOk result (λ o. is_some o ≡ crash_chooses spec.now choices.now s.now.values) }
+    ensures value { IfOk result (λ o. IfSome o (λ r. r.values ≡ crash_fields spec.now choices.now s.now.values)) }
+    ensures atomic { IfOk result (λ o. (atomic_of spec.now).crashed choices.now s.now.values ≡ option_map (λ r. r.values) o) }
+    ensures each { IfOk result (λ o. IfSome o (λ r. EachOfCrash spec.now choices.now s.now.values r.values)) }
+    ensures sorts { IsTrue (are_of (field_vars spec.now) s.now.values) → IfOk result (λ o. IfSome o (λ r. IsTrue (are_of (field_vars spec.now) r.values))) }
+{
+    let mut env = old_fields(alloc, spec, s)?;
+    let (picks, body) = crash_parts(spec);
+    if !choose(alloc, &spec.store, &mut env, picks, choices)? {
+        return Ok(None);
+    }
+    let after = assign(alloc, &spec.store, body, &env, s)?;
+    Ok(Some(after))
+}
+
+// What a crash picks and assigns.
+fn crash_parts(spec: &Spec) -> (&[Pick], &[Assign])
+    ensures picks { result.0.now ≡ spec.now.crash_picks }
+    ensures body { result.1.now ≡ spec.now.crash }
+    ensures picks_within { ArePicksWithin spec.now.store result.0.now }
+    ensures body_within { All (λ a. a.term.id < length spec.now.store) result.1.now }
+{
+    (spec.crash_picks.as_slice(), spec.crash.as_slice())
+}
+
+// The old fields under their names.
+fn old_fields(alloc: Global, spec: &Spec, s: &State) -> Result<Env, NoMemory>
+    ensures { IfOk result (λ e. e.bindings ≡ fields_bound spec.now.fields s.now.values) }
 {
     let mut bindings = Vec::new(alloc);
     bind_fields(
@@ -106,10 +141,79 @@ pub fn crashed(alloc: Global, spec: &Spec, s: &State) -> Result<State, NoMemory>
         spec.fields.as_slice(),
         s.values.as_slice(),
     )?;
-    let env = Env {
+    Ok(Env {
         bindings: List::from_vec(bindings),
-    };
-    assign(alloc, &spec.store, spec.crash.as_slice(), &env, s)
+    })
+}
+
+// The old fields and the arguments under their names.
+fn before(
+    alloc: Global,
+    spec: &Spec,
+    s: &State,
+    operation: &Op,
+    args: &[Value],
+) -> Result<Env, NoMemory>
+    ensures { IfOk result (λ e. e.bindings ≡ op_before spec.now operation.now args.now s.now.values) }
+{
+    let mut bindings = old_fields(alloc, spec, s)?.bindings.into_vec();
+    bind_args(alloc, &mut bindings, operation.params.as_slice(), args)?;
+    Ok(Env {
+        bindings: List::from_vec(bindings),
+    })
+}
+
+// Whether a number is below a bound, or 0 where the bound is 0.
+fn fits(choice: u64, limit: u64) -> bool
+    ensures { result ≡ fits choice limit }
+{
+    choice < limit || (limit == 0 && choice == 0)
+}
+
+// Whether a pick may be this number.
+fn may_be(
+    alloc: Global,
+    store: &TermStore,
+    env: &Env,
+    pick: &Pick,
+    choice: u64,
+) -> Result<bool, NoMemory>
+    requires { pick.now.bound.id < length store.now }
+    ensures { IfOk result (λ b. b ≡ fits choice (limit_of store.now env.now.bindings pick.now)) }
+{
+    let limit = eval(alloc, store, pick.bound, env)?.word();
+    Ok(fits(choice, limit))
+}
+
+// Whether picks allow the choices, which are then bound to the picks' names.
+fn choose(
+    alloc: Global,
+    store: &TermStore,
+    env: &mut Env,
+    picks: &[Pick],
+    choices: &[u64],
+) -> Result<bool, NoMemory>
+    requires { ArePicksWithin store.now picks.now }
+    ensures allowed { IfOk result (λ b. b ≡ are_allowed store.now env.old.bindings picks.now choices.now) }
+    ensures bound { IfOk result (λ b. OnTrue b (env.new.bindings ≡ env.old.bindings ++ picks_bound picks.now choices.now)) }
+{
+    let mut picks = picks;
+    let mut choices = choices;
+    while let [pick, others @ ..] = picks {
+        let [choice, rest @ ..] = choices else {
+            return Ok(false);
+        };
+        if !may_be(alloc, store, env, pick, *choice)? {
+            return Ok(false);
+        }
+        env.bindings.push(Binding {
+            name: pick.name.copy(alloc)?,
+            value: Value::Word(*choice),
+        })?;
+        picks = others;
+        choices = rest;
+    }
+    Ok(choices.is_empty())
 }
 
 // Whether there are as many values as variables, each of its variable's sort.

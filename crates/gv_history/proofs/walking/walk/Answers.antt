@@ -3,11 +3,10 @@ use Rattle.std.proofs.lemmas.List.Elements.{All-get_or}
 use Rattle.std.proofs.lemmas.Result.{IfErr-weaker}
 use Rattle.gv_spec.specs.Atomic.{atomic_of}
 use Rattle.gv_spec.specs.History.{entry_of, move_of, walked, IsMoveOf}
-use Rattle.gv_spec.specs.Walks.{Missing, walk}
+use Rattle.gv_spec.specs.Walks.{Missing, moved_beside, walk}
 use Rattle.gv_history.specs.Fault.{fields_at_end, IsFaultOf, IsUnexplained}
 use Rattle.gv_history.specs.declared.fault.WalkCause.TheVariants as cause
 use Rattle.gv_history.specs.declared.fault.WalkFault.TheVariants as fault
-use Rattle.gv_history.specs.Beside.{moved_beside}
 use Rattle.gv_history.specs.Walker.{walk_in}
 use Rattle.gv_history.proofs.WalkerLemmas.{moved_ops}
 use Rattle.gv_history.proofs.WalkingLemmas.{none_left, some_left, turn, refusal, ended, missing, explained, handed_on, unexplained}

@@ -2,8 +2,7 @@ use Rattle.std.proofs.Common.{◌≡◌, ◌+◌, ◌≤◌, drop, map}
 use Rattle.gv_spec.specs.Atomic.{atomic_of}
 use Rattle.gv_spec.specs.History.{entry_of, move_of}
 use Rattle.gv_spec.specs.Walks.{walk, walk_beside}
-use Rattle.gv_history.specs.Beside.{HasOps}
-use Rattle.gv_history.specs.Walker.{walk_in}
+use Rattle.gv_history.specs.Walker.{walk_in, HasOps}
 use Rattle.gv_history.proofs.walking.walk.Given as goal
 
 abbrev pub invariant-loop-i : goal.invariant-loop-i

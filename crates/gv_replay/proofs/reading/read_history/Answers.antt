@@ -1,27 +1,43 @@
-use Rattle.std.proofs.Common.{sym, ap, subst, ◌∙◌}
-use Rattle.std.specs.Prelude.{List, All}
+use Rattle.std.proofs.Common.{◌≡◌, List, sym, ap, subst, ◌∙◌}
+use Rattle.std.specs.Prelude.{All, Vec}
+use Rattle.std.specs.declared.alloc.Global.{Global}
 use Rattle.gv_base.specs.Places.{place_at}
-use Rattle.gv_spec.specs.History.{IsEntryOf}
+use Rattle.gv_spec.specs.History.{IsEntryOf, IsMoveOf}
 use Rattle.gv_spec.specs.declared.entry.Entry.{Entry}
 use Rattle.gv_spec.specs.declared.explanation.Move.{Move}
-use Rattle.gv_replay.specs.Reading.{entries_in}
-use Rattle.gv_replay.proofs.AnswerLemmas.{history_unread, history_refused}
-use Rattle.gv_replay.proofs.OfSpecLemmas.{entries_told}
+use Rattle.gv_replay.specs.Meaning.{with_moves}
+use Rattle.gv_replay.specs.Reading.{Tells, IsRefused, entries_in}
+use Rattle.gv_replay.specs.declared.line.TextKind.TheVariants as text_kind
+use Rattle.gv_replay.proofs.AnswerLemmas.{unread_on, refused_on}
+use Rattle.gv_replay.proofs.OfSpecLemmas.{moves_told, entries_told}
 use Rattle.gv_replay.proofs.reading.read_history.Goals as goal
 
 pub returns-in_err-moves-clause-only : goal.returns-in_err-moves-clause-only
 returns-in_err-moves-clause-only c = λ history t.
-    history_unread t.moves history c.from_residual.result c.in_err-moves.field-0.0 c.from_residual.ensures.1 (c.in_err-moves.ensures.only t.moves t.told)
+    let given = subst (λ (st : List Move). Tells (with_moves c.args.spec.now) st text_kind.History c.args.text.now t.moves) (sym c.new.ensures) t.told in
+    unread_on (λ (r : List Move). r ≡ t.moves) (λ (r : Vec Entry Global). r.items ≡ history) c.from_residual.result c.in_err-moves.field-0.0 c.from_residual.ensures.1
+    (c.in_err-moves.ensures.only t.moves given)
 
 pub returns-in_err-moves-clause-fault : goal.returns-in_err-moves-clause-fault
 returns-in_err-moves-clause-fault c = λ at code r.
-    history_refused Move Entry (place_at c.args.text.now at) code c.from_residual.result c.in_err-moves.field-0.0 c.from_residual.ensures.1 (c.in_err-moves.ensures.fault at code r)
+    let given = subst (λ (st : List Move). IsRefused (with_moves c.args.spec.now) st text_kind.History c.args.text.now at code) (sym c.new.ensures) r in
+    refused_on (List Move) (place_at c.args.text.now at) code c.from_residual.result c.in_err-moves.field-0.0 c.from_residual.ensures.1 (c.in_err-moves.ensures.fault at code given)
 
 pub returns-clause-only : goal.returns-clause-only
 returns-clause-only c = λ history t.
-    c.in_ok-entries_in.ensures ∙ ap entries_in (c.in_ok-moves.ensures.only t.moves t.told) ∙ sym t.entries
+    let given = subst (λ (st : List Move). Tells (with_moves c.args.spec.now) st text_kind.History c.args.text.now t.moves) (sym c.new.ensures) t.told in
+    c.in_ok-entries_in.ensures ∙ ap entries_in (c.into_vec.ensures ∙ c.in_ok-moves.ensures.only t.moves given) ∙ sym t.entries
+
+pub returns-clause-fault : goal.returns-clause-fault
+returns-clause-fault c = λ at code r.
+    let given = subst (λ (st : List Move). IsRefused (with_moves c.args.spec.now) st text_kind.History c.args.text.now at code) (sym c.new.ensures) r in
+    c.in_ok-moves.ensures.fault at code given
 
 pub returns-clause-of_spec : goal.returns-clause-of_spec
 returns-clause-of_spec c =
-    let P : List Entry → Type 0 = All (IsEntryOf c.args.spec.now) in
-    subst P (sym c.in_ok-entries_in.ensures) (entries_told c.args.spec.now c.in_ok-moves.moves.items c.in_ok-moves.ensures.of_spec)
+    let s = c.args.spec.now in
+    let P : List Entry → Type 0 = All (IsEntryOf s) in
+    let Q : List Move → Type 0 = All (IsMoveOf s) in
+    let t = subst (λ (st : List Move). Tells (with_moves s) st text_kind.History c.args.text.now c.in_ok-moves.moves) c.new.ensures c.in_ok-moves.ensures.found in
+    let moves = subst Q (sym c.into_vec.ensures) (moves_told s t.lines c.in_ok-moves.moves t.told) in
+    subst P (sym c.in_ok-entries_in.ensures) (entries_told s c.into_vec.result.items moves)

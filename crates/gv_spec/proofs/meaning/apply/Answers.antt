@@ -10,22 +10,25 @@ pub returns-clause-each : goal.returns-clause-each
 returns-clause-each c =
     let s = c.args.spec.now in
     let args = c.args.args.now in
+    let choices = c.args.choices.now in
     let old = c.args.s.now.values in
-    let same : c.in_ok-after.after.values ≡ fields_after s c.args.op args old = search rules in
-    subst (λ (vs : List Value). EachOfOp s c.args.op args old vs) (sym same) (op_each s c.args.op args old)
+    let same : c.in_ok-after.after.values ≡ fields_after s c.args.op args choices old = search rules in
+    subst (λ (vs : List Value). EachOfOp s c.args.op args choices old vs) (sym same) (op_each s c.args.op args choices old)
 
 pub returns-clause-sorts : goal.returns-clause-sorts
 returns-clause-sorts c =
     let s = c.args.spec.now in
     let args = c.args.args.now in
+    let choices = c.args.choices.now in
     let old = c.args.s.now.values in
-    let same : c.in_ok-after.after.values ≡ fields_after s c.args.op args old = search rules in
-    λ given. subst (λ (vs : List Value). IsTrue (are_of (field_vars s) vs)) (sym same) (op_sorts s c.args.op args old given)
+    let same : c.in_ok-after.after.values ≡ fields_after s c.args.op args choices old = search rules in
+    λ given. subst (λ (vs : List Value). IsTrue (are_of (field_vars s) vs)) (sym same) (op_sorts s c.args.op args choices old given)
 
 pub returns-clause-reply_sort : goal.returns-clause-reply_sort
 returns-clause-reply_sort c =
     let s = c.args.spec.now in
     let args = c.args.args.now in
+    let choices = c.args.choices.now in
     let old = c.args.s.now.values in
-    let same : c.in_ok-reply.reply ≡ reply_of s c.args.op args old = search rules in
-    ap sort_of_value same ∙ reply_sorts s c.args.op args old
+    let same : c.in_ok-reply.reply ≡ reply_of s c.args.op args choices old = search rules in
+    ap sort_of_value same ∙ reply_sorts s c.args.op args choices old

@@ -1,6 +1,6 @@
 use Rattle.std.proofs.Common.{set, take, get_or, sym, ap, ◌∙◌}
-use Rattle.gv_terms.specs.declared.spec.Assign.{Assign}
-use Rattle.gv_terms.specs.Specification.{assigned}
+use Rattle.gv_atomic.specs.declared.spec.Assign.{Assign}
+use Rattle.gv_atomic.specs.Specification.{assigned}
 use Rattle.gv_spec.proofs.Assigned.{assigned_take}
 use Rattle.gv_spec.proofs.meaning.assign.Goals as goal
 

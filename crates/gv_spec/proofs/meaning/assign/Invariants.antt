@@ -1,5 +1,5 @@
 use Rattle.std.proofs.Common.{◌≡◌, take}
-use Rattle.gv_terms.specs.Specification.{assigned}
+use Rattle.gv_atomic.specs.Specification.{assigned}
 use Rattle.gv_spec.proofs.meaning.assign.Given as goal
 
 abbrev pub invariant-loop-a : goal.invariant-loop-a

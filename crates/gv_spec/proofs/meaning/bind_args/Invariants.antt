@@ -1,5 +1,5 @@
 use Rattle.std.proofs.Common.{◌≡◌, ◌++◌, length}
-use Rattle.gv_terms.specs.Specification.{args_bound}
+use Rattle.gv_atomic.specs.Specification.{args_bound}
 use Rattle.gv_spec.proofs.meaning.bind_args.Given as goal
 
 abbrev pub invariant-loop-params : goal.invariant-loop-params

@@ -1,5 +1,5 @@
 use Rattle.std.proofs.Common.{◌≡◌, ◌++◌, length}
-use Rattle.gv_terms.specs.Specification.{fields_bound}
+use Rattle.gv_atomic.specs.Specification.{fields_bound}
 use Rattle.gv_spec.proofs.meaning.bind_fields.Given as goal
 
 abbrev pub invariant-loop-fields : goal.invariant-loop-fields

@@ -1,7 +1,7 @@
 use Rattle.std.proofs.Common.{◌≡◌, List, IsTrue, sym, subst, arith}
 use Rattle.std.proofs.lemmas.Grind.{common_steps}
 use Rattle.gv_terms.specs.declared.value.Value.{Value}
-use Rattle.gv_terms.specs.Specification.{first_fields}
+use Rattle.gv_atomic.specs.Specification.{first_fields}
 use Rattle.gv_spec.specs.Atomic.{are_of, field_vars}
 use Rattle.gv_spec.proofs.Atomic.{first_sorts}
 use Rattle.gv_spec.proofs.meaning.init.Goals as goal

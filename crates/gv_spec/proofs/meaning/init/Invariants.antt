@@ -1,5 +1,5 @@
 use Rattle.std.proofs.Common.{◌≡◌, map, take}
-use Rattle.gv_terms.specs.Specification.{term_value}
+use Rattle.gv_atomic.specs.Choices.{term_value}
 use Rattle.gv_spec.proofs.meaning.init.Given as goal
 
 abbrev pub invariant-loop-field : goal.invariant-loop-field

@@ -1,12 +1,16 @@
-use Rattle.std.proofs.Common.{sym}
-use Rattle.gv_terms.specs.Specification.{crashed}
-use Rattle.gv_spec.specs.Walks.{dropped}
+use Rattle.std.proofs.Common.{◌≡◌, ◌∙◌, Some, refl, sym, ap, rules}
+use Rattle.gv_spec.specs.Atomic.{atomic_of}
+use Rattle.gv_spec.specs.Walks.{dropped, booted_to}
 use Rattle.gv_history.specs.Table.{standing_in}
+use Rattle.gv_history.specs.Walker.{walk_in}
 use Rattle.gv_history.proofs.WalkerLemmas.{stood_same}
 use Rattle.gv_history.proofs.walker.Walker.boot.Goals as goal
 
-pub returns-clause-ok : goal.returns-clause-ok
-returns-clause-ok c =
+pub returns-in-Some-clause-step : goal.returns-in-Some-clause-step
+returns-in-Some-clause-step c =
     let old = c.args.self.now in
-    stood_same (crashed c.args.spec.now old.fields.values) c.in_ok-self.field-0.values (λ n. dropped (standing_in old.table n)) (standing_in c.boot.new.self)
-    (sym c.in_ok-self.ensures.value) (sym c.boot.ensures.standings)
+    let atomic = atomic_of c.args.spec.now in
+    let fields = c.in-Some.fields in
+    let allowed : atomic.crashed c.args.choices.now old.fields.values ≡ Some fields.values = search rules in
+    ap (booted_to atomic (walk_in old)) allowed
+    ∙ stood_same fields.values fields.values (λ n. dropped (standing_in old.table n)) (standing_in c.boot.new.self) refl (sym c.boot.ensures.standings)

@@ -1,9 +1,0 @@
-use Rattle.std.proofs.Common.{◌≡◌, ◌<◌, ◌^◌, drop, fold}
-use Rattle.gv_replay.specs.Numbers.{with_digit}
-use Rattle.gv_replay.proofs.number.value_of.Given as goal
-
-abbrev pub invariant-loop-byte : goal.invariant-loop-byte
-invariant-loop-byte l = record {
-  small : l.value < 2 ^ 64;
-  same : fold (with_digit l.radix) l.value (drop l.byte-index l.digits) ≡ fold (with_digit l.radix) 0 l.digits;
-}
