@@ -1,0 +1,14 @@
+pub mod Calls
+pub mod Graph
+pub mod Kinds
+pub mod Outlines
+pub mod Plain
+pub mod Rows
+pub mod Shape
+pub mod Step
+pub mod Table
+pub mod Threads
+pub mod Todo
+pub mod Tree
+pub mod Values
+pub mod WellShaped
