@@ -1,0 +1,23 @@
+use Rattle.std.proofs.Common.{◌≡◌, true, sym, ap, ◌∙◌, subst}
+use Rattle.gv_maps.specs.Entries.{FitsAt, HoldsAt}
+use Rattle.gv_words.specs.Maps.{ascends, without}
+use Rattle.gv_maps.proofs.Ascending.{without_ascends}
+use Rattle.gv_maps.proofs.Placed.{without_new, without_old}
+use Rattle.gv_maps.proofs.map.WordMap.delete.Goals as goal
+
+pub returns-in-Ok : goal.returns-in-Ok
+returns-in-Ok c =
+    let m = c.self.inside.entries.items in
+    let holds = subst (λ l. HoldsAt l c.args.key c.in-Ok.place) c.as_slice.ensures.value c.in-Ok.ensures.found in
+    c.remove.ensures.items ∙ sym (without_old m c.args.key c.in-Ok.place c.remove.result holds) ∙ ap (λ l. without l c.args.key) c.self.view_is
+
+pub invariant_of-self : goal.invariant_of-self
+invariant_of-self c =
+    subst (λ l. ascends l ≡ true) (sym (returns-in-Ok c))
+    (without_ascends c.args.self.now c.args.key (subst (λ l. ascends l ≡ true) c.self.view_is c.self.invariant))
+
+pub returns-in-Err : goal.returns-in-Err
+returns-in-Err c =
+    let m = c.self.inside.entries.items in
+    let fits = subst (λ l. FitsAt l c.args.key c.in-Err.field-0) c.as_slice.ensures.value c.in-Err.ensures.absent in
+    sym (c.self.view_is) ∙ sym (without_new m c.args.key c.in-Err.field-0 fits) ∙ ap (λ l. without l c.args.key) c.self.view_is
