@@ -1,0 +1,4 @@
+pub mod Agreeing
+pub mod Examples
+pub mod Laws
+pub mod Machine

@@ -1,0 +1,73 @@
+//! Commands on the items of slices.
+
+ghost use Rattle.gv_lang.specs.Plain.{expr_of};
+ghost use Rattle.gv_lang.specs.Tree as tree;
+ghost use Rattle.gv_steps.specs.Acting.{Acts};
+ghost use Rattle.gv_thread.specs.Frames.{thread_of};
+
+use crate::operands::{any, slice, word};
+use gv_base::{Answer, Reason};
+use gv_lang::Pure;
+use gv_store::Store;
+use gv_thread::Thread;
+
+/// The step of `x = s[i]`. This project's own.
+pub fn at(thread: &mut Thread<'_>, store: &Store, x: u32, s: &Pure, i: &Pure) -> Answer<()>
+    ensures { Acts (tree.At x (expr_of s.now) (expr_of i.now)) (thread_of thread.old) store.now result (thread_of thread.new) store.now }
+{
+    let Some(slice) = slice(thread, s) else {
+        return Answer::Undefined(Reason::Kind);
+    };
+    let Some(index) = word(thread, i) else {
+        return Answer::Undefined(Reason::Kind);
+    };
+    if slice.length <= index {
+        return Answer::Undefined(Reason::OutOfRange);
+    }
+    match store.read_item(slice, index) {
+        Answer::Next(v) => {
+            thread.finish_with(x, v);
+            Answer::Next(())
+        }
+        Answer::Blocked => Answer::Blocked,
+        Answer::Undefined(reason) => Answer::Undefined(reason),
+    }
+}
+
+/// The step of `s[i] = v`, the first or the second of its two. This project's own.
+pub fn put(thread: &mut Thread<'_>, store: &mut Store, s: &Pure, i: &Pure, v: &Pure) -> Answer<()>
+    ensures { let action = tree.Put (expr_of s.now) (expr_of i.now) (expr_of v.now) in
+        Acts action (thread_of thread.old) store.old result (thread_of thread.new) store.new }
+{
+    let Some(slice) = slice(thread, s) else {
+        return Answer::Undefined(Reason::Kind);
+    };
+    let Some(index) = word(thread, i) else {
+        return Answer::Undefined(Reason::Kind);
+    };
+    let Some(v) = any(thread, v) else {
+        return Answer::Undefined(Reason::Kind);
+    };
+    if slice.length <= index {
+        return Answer::Undefined(Reason::OutOfRange);
+    }
+    if thread.begun {
+        match store.end_item(slice, index, v) {
+            Answer::Next(()) => {
+                thread.finish();
+                Answer::Next(())
+            }
+            Answer::Blocked => Answer::Blocked,
+            Answer::Undefined(reason) => Answer::Undefined(reason),
+        }
+    } else {
+        match store.begin_item(slice, index) {
+            Answer::Next(()) => {
+                thread.begin();
+                Answer::Next(())
+            }
+            Answer::Blocked => Answer::Blocked,
+            Answer::Undefined(reason) => Answer::Undefined(reason),
+        }
+    }
+}

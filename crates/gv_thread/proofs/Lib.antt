@@ -1,0 +1,5 @@
+pub mod Lasts
+pub mod Leaving
+pub mod Parts
+pub mod Prefixes
+pub mod Stacks

@@ -1,0 +1,4 @@
+pub mod Control
+pub mod Frames
+pub mod Parts
+pub mod Settling
