@@ -1,0 +1,65 @@
+-- What tokens are read as, and their refusal, are one, and there are not both.
+use Rattle.std.proofs.Common.{◌≡◌, ℕ, List, Some, Result, Ok, Err, IfErr, refl, sym, ap, ◌∙◌}
+use Rattle.std.specs.Prelude.{slice_get}
+use Rattle.gv_base.specs.declared.answers.Code.{Code}
+use Rattle.gv_base.specs.declared.answers.Refusal.{Refusal}
+use Rattle.gv_base.specs.declared.answers.Refusal.TheVariants as refusal
+use Rattle.gv_grammar.specs.Building.{act_of}
+use Rattle.gv_grammar.specs.Text.{Spells}
+use Rattle.gv_grammar.proofs.Whole.{at_most_one}
+use Rattle.gv_grammar.proofs.Decided.{one_refused, refused_or_unfinished, one_too_deep, spelled_or_refused, spelled_or_too_deep}
+use Rattle.gv_text.specs.Answers.{IsDecided, IsReadSo, Refuses}
+use Rattle.gv_gosyntax.specs.declared.generated.gosyntax_acts.Part.TheVariants.{Token as PToken, File as PFile}
+use Rattle.gv_goparse.specs.declared.reading.TheConstants.{MAX_LEVELS}
+use Rattle.gv_gosyntax.specs.declared.lexeme.Lexeme.{Lexeme}
+use Rattle.gv_gosyntax.specs.declared.generated.gosyntax_table.TheConstants.{NAME_FILE}
+use Rattle.gv_gosyntax.specs.declared.tree.File.{File}
+use Rattle.gv_gosyntax.specs.GosyntaxTable.{gosyntax_tables}
+use Rattle.gv_gosyntax.specs.GosyntaxActs.{gosyntax_acts}
+use Rattle.gv_goparse.specs.Language.{IsFile}
+use Rattle.gv_goparse.specs.Reading.{code_of, IsRead, IsPackage, IsRefusedAt, unexpected, too_deep, end_of_text}
+use Rattle.gv_goparse.proofs.Top.{go_laws}
+
+-- the token with a number is one
+same_token : (tokens : List Lexeme) {i j : ℕ} (t u : Lexeme) → slice_get tokens i ≡ Some t → slice_get tokens j ≡ Some u → i ≡ j → t ≡ u
+same_token tokens t u e f q =
+    let g : Some t ≡ Some u = sym e ∙ (ap (slice_get tokens) q ∙ f) in
+    cc
+
+pub one_spelled : (level : ℕ) (tokens : List Lexeme) (a b : File) → Spells (IsFile level) a tokens → Spells (IsFile level) b tokens → a ≡ b
+one_spelled level tokens a b s t = at_most_one gosyntax_tables NAME_FILE (λ (token : Lexeme). token.class) PToken (act_of gosyntax_acts) IsFile PFile go_laws level MAX_LEVELS a b tokens s t
+
+module _ (text : List ℕ) (tokens : List Lexeme) where
+  one_refusal : (m n : ℕ) (c d : Code) → IsRefusedAt text tokens m c → IsRefusedAt text tokens n d → (m ≡ n) × (c ≡ d)
+  one_refusal _ _ _ _ (unexpected i t e h s) (unexpected j x f k r) =
+      let q = same_token tokens t x e f (one_refused (IsFile 0) tokens i j h k) in
+      (ap (λ (y : Lexeme). y.start) q, ap (λ (y : Lexeme). code_of y.class) q)
+  one_refusal _ _ _ _ (unexpected i t e h s) (too_deep j x f k) = absurd (s j k)
+  one_refusal _ _ _ _ (unexpected i t e h s) (end_of_text k r) = absurd (refused_or_unfinished (IsFile 0) tokens i h k)
+  one_refusal _ _ _ _ (too_deep i t e h) (unexpected j x f k r) = absurd (r i h)
+  one_refusal _ _ _ _ (too_deep i t e h) (too_deep j x f k) =
+      let q = same_token tokens t x e f (one_too_deep (IsFile 0) MAX_LEVELS tokens i j h k) in
+      (ap (λ (y : Lexeme). y.start) q, refl)
+  one_refusal _ _ _ _ (too_deep i t e h) (end_of_text k r) = absurd (r i h)
+  one_refusal _ _ _ _ (end_of_text h s) (unexpected j x f k r) = absurd (refused_or_unfinished (IsFile 0) tokens j k h)
+  one_refusal _ _ _ _ (end_of_text h s) (too_deep j x f k) = absurd (s j k)
+  one_refusal _ _ _ _ (end_of_text h s) (end_of_text k r) = (refl, refl)
+
+  not_both : (v : File) (at : ℕ) (code : Code) → IsRead tokens v → IsRefusedAt text tokens at code → ⊥
+  not_both v _ _ p (unexpected i t e h s) = spelled_or_refused (IsFile 0) MAX_LEVELS tokens v p.spelled i h
+  not_both v _ _ p (too_deep i t e h) = spelled_or_too_deep (IsFile 0) MAX_LEVELS tokens v p.spelled p.within i h
+  not_both v _ _ p (end_of_text h s) = h.none v p.spelled
+
+  -- of packages, whichever tree they spell
+  pub go_decided : {V : Type 0} → ((v w : V) → v ≡ w) → IsDecided (λ (v : V). IsPackage tokens) (IsRefusedAt text tokens)
+  go_decided one = record {
+    one_value = λ v w p q. one v w;
+    one_refusal = one_refusal;
+    not_both = λ v at code p r. not_both p.0 at code p.1 r;
+  }
+
+  -- a package is not refused
+  pub accepted_so : {V : Type 0} (result : Result V Refusal) → IfErr result (Refuses text (IsRefusedAt text tokens)) → IsPackage tokens → IsReadSo (λ (done : V). Unit {0}) result
+  accepted_so (Ok done) h p = tt
+  accepted_so (Err refusal.NoMemory) h p = tt
+  accepted_so (Err (refusal.At place code)) h p = absurd (not_both p.0 h.0 code p.1 h.2)

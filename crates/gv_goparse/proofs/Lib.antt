@@ -1,0 +1,10 @@
+pub mod Operands
+pub mod Phrases
+pub mod Forward
+pub mod Meanings
+pub mod SimpleRules
+pub mod ExprRules
+pub mod StmtRules
+pub mod Backward
+pub mod Top
+pub mod Decided

@@ -1,0 +1,2 @@
+pub mod GosyntaxTable
+pub mod GosyntaxActs

@@ -1,0 +1,15 @@
+//! The grammar of packages as tables, and the trees that its acts build.
+//!
+//! `gosyntax.grammar` is the grammar that the tables and acts in `generated` are made from (docs/grammar.md); `tree` has what
+//! a package is read as.
+#![tactic(auto)]
+
+pub mod generated;
+mod lexeme;
+mod tree;
+
+pub use lexeme::Lexeme;
+pub use tree::{
+    Block, Call, Decl, Expr, File, ForHeader, Func, GoType, Group, KeyedExpr, Pointed, Receiver,
+    Right, Simple, Stmt,
+};
