@@ -13,7 +13,8 @@ abbrev pub method_head : List ℕ → List Token → Read (List ℕ × List ℕ)
 method_head type_name ts =
     option_and_then (λ a. option_and_then (λ b. option_and_then (λ c. option_and_then (λ d. option_and_then (λ e. option_and_then (λ f.
     option_map (λ after. ((b.0, f.0), after)) (behind_all (plain (codes "(")) f.1))
-    (word_at is_operation_name e)) (behind_all (plain (codes ")")) d)) (behind_all (named type_name ∷ []) c)) (behind_all (plain (codes "*")) b.1)) (word_at is_name a)) (behind_all (plain (codes "func (")) ts)
+    (word_at is_operation_name e)) (behind_all (plain (codes ")")) d)) (behind_all (named type_name ∷ []) c))
+    (behind_all (plain (codes "*")) b.1)) (word_at is_name a)) (behind_all (plain (codes "func (")) ts)
 
 -- the body of a method, behind its parameters
 abbrev pub method_body : List (List ℕ) → List Token → Read (Part × List Turn)
@@ -40,13 +41,18 @@ methods type_name ts = all_of is_nothing (method type_name) ts
 abbrev pub package_end : List ℕ → List Token → Option (List Token)
 package_end type_name ts =
     option_and_then (λ a. option_and_then (λ b. option_and_then (λ c. option_and_then (λ d. behind_all (plain (codes "} ;")) (past_semicolon d))
-    (behind_all (plain (codes "{ }")) c)) (behind_all (named type_name ∷ []) b)) (behind_all (plain (codes "{ return &")) a)) (behind_all (named type_name ∷ []) ts)
+    (behind_all (plain (codes "{ }")) c)) (behind_all (named type_name ∷ []) b)) (behind_all (plain (codes "{ return &")) a))
+    (behind_all (named type_name ∷ []) ts)
 
 -- the struct's name, up to the methods
 abbrev pub package_head : List Token → Read (List ℕ)
 package_head ts =
-    option_and_then (λ a. option_and_then (λ b. option_and_then (λ c. option_and_then (λ d. option_and_then (λ e. option_map (λ after. (d.0, after)) (package_end d.0 e))
-    (behind_all (plain (codes "struct { } ; func Recover ( ) *")) d.1)) (word_at is_name c)) (behind_all (plain (codes "; type")) b.1)) (word_at is_name a)) (behind_all (plain (codes "package")) ts)
+    option_and_then (λ a. option_and_then (λ b. option_and_then (λ c. option_and_then (λ d. option_and_then (λ e.
+    option_map (λ after. (d.0, after)) (package_end d.0 e))
+    (behind_all (plain (codes "struct { } ; func Recover ( ) *")) d.1)) (word_at is_name c)) (behind_all (plain (codes "; type")) b.1))
+    (word_at is_name a)) (behind_all (plain (codes "package")) ts)
 
 abbrev pub package_ops : List Token → Option (List SmallOp)
-package_ops ts = option_and_then (λ h. option_and_then (λ m. option_map (λ _. m.0) (distinct_names (map (λ op. op.name) m.0))) (methods h.0 h.1)) (package_head ts)
+package_ops ts =
+    option_and_then (λ h. option_and_then (λ m. option_map (λ _. m.0) (distinct_names (map (λ op. op.name) m.0))) (methods h.0 h.1))
+    (package_head ts)

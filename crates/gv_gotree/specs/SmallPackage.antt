@@ -21,7 +21,9 @@ pub data IsPackage : Small → List Token → Type 0 where
       is_name name ≡ true → is_name type_name ≡ true → MayEnd end (plain (codes "} ;") ++ ms) → Many (IsMethod type_name) ops ms [] →
       is_distinct (map (λ op. op.name) ops) ≡ true →
       IsPackage (record { ops = ops })
-      (plain (codes "package") ++ named name ∷ (plain (codes "; type") ++ named type_name ∷ (plain (codes "struct { } ; func Recover ( ) *") ++ named type_name ∷ (plain (codes "{ return &") ++ named type_name ∷ (plain (codes "{ }") ++ end)))))
+      (plain (codes "package") ++ named name ∷ (plain (codes "; type") ++ named type_name
+      ∷ (plain (codes "struct { } ; func Recover ( ) *") ++ named type_name
+      ∷ (plain (codes "{ return &") ++ named type_name ∷ (plain (codes "{ }") ++ end)))))
 
 -- the text's tokens, with Go's semicolons, are those of a package with these operations
 pub record IsSmallPackage (text : List ℕ) (small : Small) : Type 0 where

@@ -13,7 +13,10 @@ use Rattle.gv_small.specs.Tokens.{Token, named, signed, arrowed, is_word_byte, i
 
 -- the words that Go and its profile keep for themselves
 abbrev pub reserved_words : List (List ℕ)
-reserved_words = codes "break" ∷ codes "case" ∷ codes "chan" ∷ codes "const" ∷ codes "continue" ∷ codes "default" ∷ codes "defer" ∷ codes "else" ∷ codes "fallthrough" ∷ codes "for" ∷ codes "func" ∷ codes "go" ∷ codes "goto" ∷ codes "if" ∷ codes "import" ∷ codes "interface" ∷ codes "map" ∷ codes "package" ∷ codes "range" ∷ codes "return" ∷ codes "select" ∷ codes "struct" ∷ codes "switch" ∷ codes "type" ∷ codes "var" ∷ codes "uint64" ∷ codes "byte" ∷ codes "bool" ∷ codes "true" ∷ codes "false" ∷ codes "nil" ∷ codes "make" ∷ codes "new" ∷ codes "len" ∷ codes "delete" ∷ []
+reserved_words = codes "break" ∷ codes "case" ∷ codes "chan" ∷ codes "const" ∷ codes "continue" ∷ codes "default" ∷ codes "defer" ∷ codes "else"
+    ∷ codes "fallthrough" ∷ codes "for" ∷ codes "func" ∷ codes "go" ∷ codes "goto" ∷ codes "if" ∷ codes "import" ∷ codes "interface" ∷ codes "map"
+    ∷ codes "package" ∷ codes "range" ∷ codes "return" ∷ codes "select" ∷ codes "struct" ∷ codes "switch" ∷ codes "type" ∷ codes "var" ∷ codes "uint64"
+    ∷ codes "byte" ∷ codes "bool" ∷ codes "true" ∷ codes "false" ∷ codes "nil" ∷ codes "make" ∷ codes "new" ∷ codes "len" ∷ codes "delete" ∷ []
 
 abbrev pub is_digit : ℕ → Bool
 is_digit b = nat_le 48 b && nat_le b 57
@@ -80,17 +83,21 @@ pub data IsNextParameter (kind : List Token) : List ℕ → List Token → List 
 -- the parameters of an operation, between commas
 pub data AreParameters (kind : List Token) : List (List ℕ) → List Token → List Token → Type 0 where
   none : {ts : List Token} → AreParameters kind [] ts ts
-  some : {n : List ℕ} {ns : List (List ℕ)} {ts after : List Token} → is_name n ≡ true → Many (IsNextParameter kind) ns ts after → AreParameters kind (n ∷ ns) (named n ∷ (kind ++ ts)) after
+  some : {n : List ℕ} {ns : List (List ℕ)} {ts after : List Token} → is_name n ≡ true → Many (IsNextParameter kind) ns ts after
+      → AreParameters kind (n ∷ ns) (named n ∷ (kind ++ ts)) after
 
 -- `+` or `-` and a part
 pub data IsTurn (params : List (List ℕ)) : Turn → List Token → List Token → Type 0 where
-  plus : {w : List ℕ} {part : Part} {after : List Token} → part_of params w ≡ Some part → IsTurn params (record { minus = false; part = part }) (signed 43 ∷ named w ∷ after) after
-  minus : {w : List ℕ} {part : Part} {after : List Token} → part_of params w ≡ Some part → IsTurn params (record { minus = true; part = part }) (signed 45 ∷ named w ∷ after) after
+  plus : {w : List ℕ} {part : Part} {after : List Token} → part_of params w ≡ Some part
+      → IsTurn params (record { minus = false; part = part }) (signed 43 ∷ named w ∷ after) after
+  minus : {w : List ℕ} {part : Part} {after : List Token} → part_of params w ≡ Some part
+      → IsTurn params (record { minus = true; part = part }) (signed 45 ∷ named w ∷ after) after
 
 -- a number alone, or a parameter and turns
 pub data IsSum (params : List (List ℕ)) : Part → List Turn → List Token → List Token → Type 0 where
   number : {w : List ℕ} {v : ℕ} {after : List Token} → part_of params w ≡ Some (Number v) → IsSum params (Number v) [] (named w ∷ after) after
-  turns : {w : List ℕ} {i : ℕ} {rest : List Turn} {ts after : List Token} → part_of params w ≡ Some (Param i) → Many (IsTurn params) rest ts after → IsSum params (Param i) rest (named w ∷ ts) after
+  turns : {w : List ℕ} {i : ℕ} {rest : List Turn} {ts after : List Token} → part_of params w ≡ Some (Param i) → Many (IsTurn params) rest ts after
+      → IsSum params (Param i) rest (named w ∷ ts) after
 
 -- a semicolon that may be left out before a closing brace
 pub data MayEnd : List Token → List Token → Type 0 where

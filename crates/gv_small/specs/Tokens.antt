@@ -112,7 +112,9 @@ pub record Placed : Type 0 where
 
 -- Go's keywords but those behind which a line may end
 abbrev pub open_keywords : List (List ℕ)
-open_keywords = codes "case" ∷ codes "chan" ∷ codes "const" ∷ codes "default" ∷ codes "defer" ∷ codes "else" ∷ codes "fallthrough" ∷ codes "for" ∷ codes "func" ∷ codes "go" ∷ codes "goto" ∷ codes "if" ∷ codes "import" ∷ codes "interface" ∷ codes "map" ∷ codes "package" ∷ codes "range" ∷ codes "select" ∷ codes "struct" ∷ codes "switch" ∷ codes "type" ∷ codes "var" ∷ []
+open_keywords = codes "case" ∷ codes "chan" ∷ codes "const" ∷ codes "default" ∷ codes "defer" ∷ codes "else" ∷ codes "fallthrough" ∷ codes "for"
+    ∷ codes "func" ∷ codes "go" ∷ codes "goto" ∷ codes "if" ∷ codes "import" ∷ codes "interface" ∷ codes "map" ∷ codes "package" ∷ codes "range"
+    ∷ codes "select" ∷ codes "struct" ∷ codes "switch" ∷ codes "type" ∷ codes "var" ∷ []
 
 abbrev pub is_among : List (List ℕ) → List ℕ → Bool
 is_among names w = list_any (λ n. bytes_eq w n) names

@@ -52,7 +52,8 @@ fn more_parameters(
     names: &mut List<Name>,
 ) -> Result<(), Refusal>
     requires { length kind.now < 2 ^ 32 - 1 }
-    ensures ok { OnOk result (reading.joined names.old (reading.more_parameters (plain kind.now) (kinds_left cursor.old)) ≡ Some (names.new, kinds_left cursor.new)) }
+    ensures ok { OnOk result (reading.joined names.old (reading.more_parameters (plain kind.now) (kinds_left cursor.old))
+        ≡ Some (names.new, kinds_left cursor.new)) }
     ensures err { IfErr result (Refuses (reading.more_parameters (plain kind.now) (kinds_left cursor.old))) }
     ensures count { OnOk result (length names.new + bytes_left cursor.new ≤ length names.old + bytes_left cursor.old) }
 {

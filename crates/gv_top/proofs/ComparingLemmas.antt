@@ -7,7 +7,7 @@ use Rattle.std.proofs.lemmas.Option.{slice_get_read}
 use Rattle.gv_base.specs.declared.answers.Place.{Place}
 use Rattle.gv_base.specs.declared.small.SmallOp.{SmallOp}
 use Rattle.gv_top.specs.declared.small_script.SmallBlock.{SmallBlock}
-use Rattle.gv_top.specs.Deserved.{SameSum, AllSameSums, IsFirstDifference}
+use Rattle.gv_top.specs.Comparing.{SameSum, AllSameSums, IsFirstDifference}
 
 -- what two equal lists of values have at one place
 pub at_both : {A B C : Type 0} (f : A → C) (g : B → C) (xs : List A) (ys : List B) (i : ℕ) (a : A) (b : B) → i < length xs → i < length ys → a ≡ get_or xs i a → map f xs ≡ map g ys → f a ≡ g (get_or ys i b)
@@ -28,12 +28,12 @@ cut_at xs i a h e =
 pub first_difference : (ops others : List SmallOp) (blocks : List SmallBlock) (i : ℕ) (op other : SmallOp) (block : SmallBlock) → i < length ops → i < length others → i < length blocks →
     op ≡ get_or ops i op → other ≡ get_or others i other → block ≡ get_or blocks i block → AllSameSums (take i ops) (take i others) → (SameSum op other → ⊥) → IsFirstDifference ops others blocks block.step
 first_difference ops others blocks i op other block h k l p q r same differs = record {
-  front = take i ops;
+  prefix = take i ops;
   op = op;
-  back = drop (i + 1) ops;
-  other_front = take i others;
+  after = drop (i + 1) ops;
+  other_prefix = take i others;
   other = other;
-  other_back = drop (i + 1) others;
+  other_after = drop (i + 1) others;
   block = block;
   ops_are = cut_at ops i op h p;
   others_are = cut_at others i other k q;

@@ -1,8 +1,12 @@
-pub mod CheckingLemmas
+pub mod CheckLemmas
+pub mod CommandLemmas
 pub mod ComparingLemmas
+pub mod DifferenceLemmas
 pub mod ExactLemmas
 pub mod FilesLemmas
-pub mod PutLemmas
+pub mod FormLemmas
+pub mod LawLemmas
+pub mod OutcomeLemmas
 pub mod RunLemmas
 pub mod ScriptLemmas
 pub mod WrittenLemmas

@@ -1,213 +1,264 @@
 -- What a status tells, and what acceptance promises.
-use Rattle.std.proofs.Common.{◌≡◌, ◌≢◌, ℕ, ◌+◌, ◌-◌, ◌^◌, ◌<◌, ◌≤◌, List, Option, Some, None, refl, sym, ap, subst, ◌∙◌, ◌⊎◌, inl, inr, arith}
-use Rattle.gv_base.specs.Outside.{Appended, Rose}
+use Rattle.std.proofs.Common.{◌≡◌, ◌≢◌, ℕ, ◌<◌, ◌≤◌, List, Option, Result, Ok, Err, refl, sym, ap, subst, ◌∙◌, ◌⊎◌, inl, inr, arith}
 use Rattle.gv_base.specs.declared.answers.Code.{Code}
 use Rattle.gv_base.specs.declared.answers.Place.{Place}
+use Rattle.gv_base.specs.Outside.{Told}
 use Rattle.gv_base.specs.declared.small.Small.{Small}
 use Rattle.gv_small.specs.Tokens.{start}
-use Rattle.gv_gotree.specs.SmallPackage.{IsSmallPackage}
-use Rattle.gv_spec.specs.SmallSpec.{IsSmallSpec}
 use Rattle.gv_spec.proofs.SmallRuns.{small_refines_without_crash}
-use Rattle.gv_top.specs.declared.report.Cause.TheVariants as cause
-use Rattle.gv_top.specs.declared.report.Report.{Report}
-use Rattle.gv_top.specs.declared.report.Report.TheVariants.{Usage, OutOfMemory, CannotRead, Refused, Unjustified, AcceptedWithoutCrash}
-use Rattle.gv_top.specs.Report.{status_of, text_of}
-use Rattle.gv_top.specs.Deserved.{Asked, Deserves, usage, memory, checked, Checked, AfterPackage, AfterSpec, Compares, AllSameSums, EndsAt, Reads, IsSpecFor, IsCheck, IsNoCommand}
-use Rattle.gv_top.specs.Told.{Heard, Tells, whole, front, Answers, IsCutOff, IsPromised, Promises}
+use Rattle.gv_report.specs.declared.cause.Cause.{Cause}
+use Rattle.gv_report.specs.declared.cause.Cause.TheVariants.{NoAtom}
+use Rattle.gv_report.specs.declared.report.Report.{Report}
+use Rattle.gv_report.specs.declared.report.Report.TheVariants.{Usage, OutOfMemory, CannotRead, Refused, Unjustified, AcceptedWithoutCrash}
+use Rattle.gv_report.specs.Report.{status_of, text_of, IsAnswerTo}
+use Rattle.gv_report.specs.Heard as sink
+use Rattle.gv_report.specs.Heard.{Heard, Tells, whole, cut}
+use Rattle.gv_top.specs.declared.check.Verdict.{Verdict}
+use Rattle.gv_top.specs.declared.check.Verdict.TheVariants as verdict
+use Rattle.gv_top.specs.declared.files.Halt.{Halt}
+use Rattle.gv_top.specs.declared.small_script.SmallScript.{SmallScript}
+use Rattle.gv_top.specs.declared.files.Halt.TheVariants as halt
+use Rattle.gv_top.specs.Check.{Checks, Compares, report_of}
+use Rattle.gv_top.specs.Commands.{Command, check, Asks, IsNoCommand, Comes, reported}
+use Rattle.gv_top.specs.Comparing.{AllSameSums}
+use Rattle.gv_top.specs.Files.{Asked, Source, Reads, Ends, outside}
+use Rattle.gv_top.specs.Forms.{specs, specs_for}
+use Rattle.gv_top.specs.Promise.{Promise}
+use Rattle.gv_top.specs.Run.{Gives, usage, done, Deserves, Answers, IsCutOff, IsBlamedIn}
+use Rattle.gv_top.proofs.OutcomeLemmas.{accepted_of, unjustified_of, refused_of, never_usage, refusal_of}
 
 -- ---- acceptance
 
 -- a specification that is read for the package is one
-is_spec : (program : Small) (held : Option (List ℕ)) (small : Small) → Reads (IsSpecFor program) held small → Reads IsSmallSpec held small
-is_spec program held small r = record { bytes = r.bytes; fetched = r.fetched; fits = r.fits; form = r.form.0 }
+is_spec : (source : Source) (program small : Small) (name : List ℕ) → Reads source (specs_for program) name small → Reads source specs name small
+is_spec source program small name r = record { bytes = r.bytes; given = r.given; fits = r.fits; spelled = r.spelled.0 }
 
-compared : (asked : Asked) (program small : Small) (t : List ℕ) → AfterSpec program small t asked AcceptedWithoutCrash → AllSameSums program.ops small.ops
-compared asked program small t (inl h) = absurd h
-compared asked program small t (inr (script, reads, none, same)) = same
+same_sums : (program small : Small) (script : SmallScript) (o : Result Verdict Halt) → o ≡ Ok verdict.AcceptedWithoutCrash → Ends (Compares program small script) o → AllSameSums program.ops small.ops
+same_sums program small script (Ok (verdict.Unjustified place why)) e c = absurd cc
+same_sums program small script (Ok verdict.AcceptedWithoutCrash) e c = c
+same_sums program small script (Err h) e c = absurd c
 
-module _ (asked : Asked) (p s t : List ℕ) where
-  with_spec : (program : Small) → Reads IsSmallPackage (asked.held p) program → AfterPackage program s t asked AcceptedWithoutCrash → Promises asked.held p s
-  with_spec program reads (inl h) = absurd h
-  with_spec program reads (inr (small, spec_reads, after)) =
-      let same = compared asked program small t after in
+no_halt : (o : Result Verdict Halt) (h : Halt) → o ≡ Ok verdict.AcceptedWithoutCrash → o ≡ Err h → ⊥
+no_halt o h e f = cc
+
+module _ (words : List (List ℕ)) (held : List ℕ → Told) (p s t : List ℕ) (asks : Asks words (check p s t)) where
+  kept : (o : Result Verdict Halt) → o ≡ Ok verdict.AcceptedWithoutCrash → Checks (outside held) p s t o → Promise words held
+  kept o e (inl (h, f, k)) = absurd (no_halt o h e f)
+  kept o e (inr (program, reads, inl (h, f, k))) = absurd (no_halt o h e f)
+  kept o e (inr (program, reads, inr (small, spec_reads, inl (h, f, k)))) = absurd (no_halt o h e f)
+  kept o e (inr (program, reads, inr (small, spec_reads, inr (script, script_reads, c)))) =
+      let same = same_sums program small script o e c in
       record {
+        package_name = p;
+        spec_name = s;
+        script_name = t;
+        asked = asks;
         program = program;
-        small = small;
-        program_text = reads;
-        small_text = is_spec program (asked.held s) small spec_reads;
-        refines = small_refines_without_crash program small (record { interface = spec_reads.form.1; sums = record { firsts = same.0; rests = same.1 } });
+        is_package = reads;
+        atomic = small;
+        is_spec = is_spec (outside held) program small s spec_reads;
+        interface = spec_reads.spelled.1;
+        refines = small_refines_without_crash program small (record { interface = spec_reads.spelled.1; sums = record { firsts = same.0; rests = same.1 } });
       }
 
-  with_package : Checked p s t asked AcceptedWithoutCrash → Promises asked.held p s
-  with_package (inl h) = absurd h
-  with_package (inr (program, reads, after)) = with_spec program reads after
+comes_kept : (words : List (List ℕ)) (held : List ℕ → Told) (c : Command) (r : Report) → r ≡ AcceptedWithoutCrash → Asks words c → Comes (outside held) c r → Promise words held
+comes_kept words held (check p s t) r e asks (o, checks, is) = kept words held p s t asks o (accepted_of o (sym e ∙ is)) checks
 
-pub promised : (words : List (List ℕ)) (asked : Asked) (r : Report) → r ≡ AcceptedWithoutCrash → Deserves words asked r → IsPromised words asked.held
-promised words asked r e (usage h n) = absurd cc
-promised words asked r e (memory p s t h) = absurd cc
-promised words asked r e (checked p s t h k) =
-    record { package_name = p; spec_name = s; script_name = t; names = h; promises = with_package asked p s t (subst (λ x. Checked p s t asked x) e k) }
+pub promised : (words : List (List ℕ)) (a : Asked) (r : Report) → r ≡ AcceptedWithoutCrash → Deserves words a r → Promise words a.held
+promised words a r e d = go r e d.given
+  where
+    go : (r : Report) → r ≡ AcceptedWithoutCrash → Gives (outside a.held) words r → Promise words a.held
+    go r e (usage h) = absurd cc
+    go r e (done c asks comes) = comes_kept words a.held c r e asks comes
+
+-- ---- want of memory
+
+memory_free : (source : Source) (c : Command) → Comes source c OutOfMemory
+memory_free source (check p s t) = (Err halt.NoMemory, inl (halt.NoMemory, refl, tt), refl)
+
+memory_given : (source : Source) (words : List (List ℕ)) (r : Report) → r ≢ Usage → Gives source words r → Gives source words OutOfMemory
+memory_given source words r n (usage h) = absurd (n refl)
+memory_given source words r n (done c asks comes) = done c asks (memory_free source c)
+
+pub answered : (words : List (List ℕ)) (a : Asked) (r q : Report) → Deserves words a r → IsAnswerTo r q → Deserves words a q
+answered words a r q d (inl e) = subst (λ (x : Report). Deserves words a x) (sym e) d
+answered words a r q d (inr (e, n)) = subst (λ (x : Report). Deserves words a x) (sym e) (record { given = memory_given (outside a.held) words r n d.given; blamed = tt })
+
+-- ---- causes, places and usage
+
+why_of : (program small : Small) (script : SmallScript) (place : Place) (why : Cause) (o : Result Verdict Halt) → o ≡ Ok (verdict.Unjustified place why) → Ends (Compares program small script) o → why ≡ NoAtom
+why_of program small script place why (Ok (verdict.Unjustified q c)) e k = let same : why ≡ c = cc in same ∙ k.0
+why_of program small script place why (Ok verdict.AcceptedWithoutCrash) e k = absurd cc
+why_of program small script place why (Err h) e k = absurd k
+
+check_why : (source : Source) (p s t : List ℕ) (place : Place) (why : Cause) (o : Result Verdict Halt) → o ≡ Ok (verdict.Unjustified place why) → Checks source p s t o → why ≡ NoAtom
+check_why source p s t place why o e (inl (h, f, k)) = absurd cc
+check_why source p s t place why o e (inr (program, reads, inl (h, f, k))) = absurd cc
+check_why source p s t place why o e (inr (program, reads, inr (small, spec_reads, inl (h, f, k)))) = absurd cc
+check_why source p s t place why o e (inr (program, reads, inr (small, spec_reads, inr (script, script_reads, c)))) = why_of program small script place why o e c
+
+comes_why : (source : Source) (place : Place) (why : Cause) (c : Command) (r : Report) → r ≡ Unjustified place why → Comes source c r → why ≡ NoAtom
+comes_why source place why (check p s t) r e (o, checks, is) = check_why source p s t place why o (unjustified_of place why o (sym e ∙ is)) checks
+
+cause_of : (words : List (List ℕ)) (a : Asked) (place : Place) (why : Cause) (r : Report) → r ≡ Unjustified place why → Gives (outside a.held) words r → why ≡ NoAtom
+cause_of words a place why r e (usage h) = absurd cc
+cause_of words a place why r e (done c asks comes) = comes_why (outside a.held) place why c r e comes
+
+comes_at : (source : Source) (name : List ℕ) (place : Place) (code : Code) (c : Command) (r : Report) → r ≡ Refused name place code → Comes source c r → place ≡ start
+comes_at source name place code (check p s t) r e (o, checks, is) = let x = refusal_of source p s t name place code o (refused_of name place code o (sym e ∙ is)) checks in x.place_is
+
+place_of : (words : List (List ℕ)) (a : Asked) (name : List ℕ) (place : Place) (code : Code) (r : Report) → r ≡ Refused name place code → Gives (outside a.held) words r → place ≡ start
+place_of words a name place code r e (usage h) = absurd cc
+place_of words a name place code r e (done c asks comes) = comes_at (outside a.held) name place code c r e comes
+
+usage_of : (words : List (List ℕ)) (source : Source) (r : Report) → IsNoCommand words → Gives source words r → r ≡ Usage
+usage_of words source r n (usage h) = refl
+usage_of words source r n (done c asks comes) = absurd (n c asks)
+
+comes_usage : (source : Source) (c : Command) (r : Report) → r ≡ Usage → Comes source c r → ⊥
+comes_usage source (check p s t) r e (o, checks, is) = never_usage o (sym e ∙ is)
+
+only_usage : (words : List (List ℕ)) (source : Source) (r : Report) → r ≡ Usage → Gives source words r → IsNoCommand words
+only_usage words source r e (usage h) = h
+only_usage words source r e (done c asks comes) = absurd (comes_usage source c r e comes)
 
 -- ---- statuses
 
--- the report with a status below 6
-pub record IsOf (words : List (List ℕ)) (asked : Asked) (heard : Heard) (status : ℕ) : Type 0 where
-  pub report : Report
-  pub is : status_of report ≡ status
-  pub answers : Answers words asked heard report
-  pub calm : heard.faults_now ≡ heard.faults_before
-
 six : (r : Report) → status_of r ≤ 5
 six AcceptedWithoutCrash = omega arith
-six (Unjustified place c) = omega arith
+six (Unjustified place why) = omega arith
 six Usage = omega arith
 six (CannotRead name) = omega arith
 six (Refused name place code) = omega arith
 six OutOfMemory = omega arith
 
-module _ (words : List (List ℕ)) (asked : Asked) (heard : Heard) where
-  -- all of the report was written, or a put failed
-  pub split : (r : Report) (status : ℕ) → Deserves words asked r → Tells r heard status → IsOf words asked heard status ⊎ ((status ≡ 6) × IsCutOff words asked heard)
-  split r status d (whole w f) = inl (record { report = r; is = refl; answers = (d, w); calm = f })
-  split r status d (front o w) = inr (refl, record { report = r; deserved = d; rose = o; written = w })
+-- the report with a status below 6
+record IsOf (words : List (List ℕ)) (a : Asked) (h : Heard) (status : ℕ) : Type 0 where
+  pub report : Report
+  pub is : status_of report ≡ status
+  pub answers : Answers words a h report
+  pub calm : sink.NoneFailed h
 
-  pub below_six : (r : Report) (status n : ℕ) → Deserves words asked r → Tells r heard status → status ≡ n → n ≤ 5 → IsOf words asked heard n
-  below_six r status n d t e l = go (split r status d t)
+module _ (words : List (List ℕ)) (a : Asked) (h : Heard) (r : Report) (status : ℕ) (d : Deserves words a r) (t : Tells r h status) where
+  -- all of the report was written, or a put failed
+  split : IsOf words a h status ⊎ ((status ≡ 6) × IsCutOff words a h)
+  split = go status t
     where
-      go : IsOf words asked heard status ⊎ ((status ≡ 6) × IsCutOff words asked heard) → IsOf words asked heard n
-      go (inl x) = subst (λ k. IsOf words asked heard k) e x
+      go : (status : ℕ) → Tells r h status → IsOf words a h status ⊎ ((status ≡ 6) × IsCutOff words a h)
+      go status (whole w f) = inl (record { report = r; is = refl; answers = (d, w); calm = f })
+      go status (cut o w) = inr (refl, record { report = r; deserved = d; fault = o; written = w })
+
+  below_six : (n : ℕ) → status ≡ n → n ≤ 5 → IsOf words a h n
+  below_six n e l = go split
+    where
+      go : IsOf words a h status ⊎ ((status ≡ 6) × IsCutOff words a h) → IsOf words a h n
+      go (inl x) = subst (λ k. IsOf words a h k) e x
       go (inr x) = let clash : n ≡ 6 = sym e ∙ x.0 in absurd (omega (arith, clash, l))
 
-  pub cut_off : (r : Report) (status : ℕ) → Deserves words asked r → Tells r heard status → status ≡ 6 → IsCutOff words asked heard
-  cut_off r status d t e = go (split r status d t)
+  pub calm : status ≤ 5 → sink.NoneFailed h
+  calm l = go split
     where
-      go : IsOf words asked heard status ⊎ ((status ≡ 6) × IsCutOff words asked heard) → IsCutOff words asked heard
+      go : IsOf words a h status ⊎ ((status ≡ 6) × IsCutOff words a h) → sink.NoneFailed h
+      go (inl x) = x.calm
+      go (inr x) = let e = x.0 in absurd (omega (arith, e, l))
+
+  pub cut_off : status ≡ 6 → IsCutOff words a h
+  cut_off e = go split
+    where
+      go : IsOf words a h status ⊎ ((status ≡ 6) × IsCutOff words a h) → IsCutOff words a h
       go (inl x) = let k = six x.report in let q = x.is in absurd (omega (arith, k, q, e))
       go (inr x) = x.1
 
-  pub always_cut_off : (r : Report) (status : ℕ) → Deserves words asked r → Tells r heard status → heard.faults_before < heard.faults_now → status ≡ 6
-  always_cut_off r status d t h = go (split r status d t)
+  pub always_cut_off : h.faults_before < h.faults_now → status ≡ 6
+  always_cut_off l = go split
     where
-      go : IsOf words asked heard status ⊎ ((status ≡ 6) × IsCutOff words asked heard) → status ≡ 6
-      go (inl x) = let c = x.calm in absurd (omega (arith, c, h))
+      go : IsOf words a h status ⊎ ((status ≡ 6) × IsCutOff words a h) → status ≡ 6
+      go (inl x) = let c = x.calm in absurd (omega (arith, c, l))
       go (inr x) = x.0
 
-  pub known : (r : Report) (status : ℕ) → Deserves words asked r → Tells r heard status → status ≤ 6
-  known r status d t = go (split r status d t)
+  pub known : status ≤ 6
+  known = go split
     where
-      go : IsOf words asked heard status ⊎ ((status ≡ 6) × IsCutOff words asked heard) → status ≤ 6
+      go : IsOf words a h status ⊎ ((status ≡ 6) × IsCutOff words a h) → status ≤ 6
       go (inl x) = let k = six x.report in let q = x.is in omega (arith, k, q)
       go (inr x) = let e = x.0 in omega (arith, e)
 
   -- ---- one status after the other
 
-  zero_is : (r : Report) → status_of r ≡ 0 → r ≡ AcceptedWithoutCrash
-  zero_is AcceptedWithoutCrash e = refl
-  zero_is (Unjustified place c) e = absurd (omega (arith, e))
-  zero_is Usage e = absurd (omega (arith, e))
-  zero_is (CannotRead name) e = absurd (omega (arith, e))
-  zero_is (Refused name place code) e = absurd (omega (arith, e))
-  zero_is OutOfMemory e = absurd (omega (arith, e))
-
-  two_is : (r : Report) → status_of r ≡ 2 → r ≡ Usage
-  two_is AcceptedWithoutCrash e = absurd (omega (arith, e))
-  two_is (Unjustified place c) e = absurd (omega (arith, e))
-  two_is Usage e = refl
-  two_is (CannotRead name) e = absurd (omega (arith, e))
-  two_is (Refused name place code) e = absurd (omega (arith, e))
-  two_is OutOfMemory e = absurd (omega (arith, e))
-
-  five_is : (r : Report) → status_of r ≡ 5 → r ≡ OutOfMemory
-  five_is AcceptedWithoutCrash e = absurd (omega (arith, e))
-  five_is (Unjustified place c) e = absurd (omega (arith, e))
-  five_is Usage e = absurd (omega (arith, e))
-  five_is (CannotRead name) e = absurd (omega (arith, e))
-  five_is (Refused name place code) e = absurd (omega (arith, e))
-  five_is OutOfMemory e = refl
-
-  pub accepted : IsOf words asked heard 0 → Answers words asked heard AcceptedWithoutCrash
-  accepted x = subst (λ r. Answers words asked heard r) (zero_is x.report x.is) x.answers
-
-  pub usage_line : IsOf words asked heard 2 → Answers words asked heard Usage
-  usage_line x = subst (λ r. Answers words asked heard r) (two_is x.report x.is) x.answers
-
-  pub out_of_memory : IsOf words asked heard 5 → Answers words asked heard OutOfMemory
-  out_of_memory x = subst (λ r. Answers words asked heard r) (five_is x.report x.is) x.answers
-
-  pub unread : IsOf words asked heard 3 → (name : List ℕ) × Answers words asked heard (CannotRead name)
-  unread x = go x.report x.is x.answers
+  pub accepted : status ≡ 0 → Answers words a h AcceptedWithoutCrash
+  accepted e = let x = below_six 0 e (omega arith) in go x.report x.is x.answers
     where
-      go : (r : Report) → status_of r ≡ 3 → Answers words asked heard r → (name : List ℕ) × Answers words asked heard (CannotRead name)
-      go AcceptedWithoutCrash e a = absurd (omega (arith, e))
-      go (Unjustified place c) e a = absurd (omega (arith, e))
-      go Usage e a = absurd (omega (arith, e))
-      go (CannotRead name) e a = (name, a)
-      go (Refused name place code) e a = absurd (omega (arith, e))
-      go OutOfMemory e a = absurd (omega (arith, e))
+      go : (q : Report) → status_of q ≡ 0 → Answers words a h q → Answers words a h AcceptedWithoutCrash
+      go AcceptedWithoutCrash f k = k
+      go (Unjustified place why) f k = absurd (omega (arith, f))
+      go Usage f k = absurd (omega (arith, f))
+      go (CannotRead name) f k = absurd (omega (arith, f))
+      go (Refused name place code) f k = absurd (omega (arith, f))
+      go OutOfMemory f k = absurd (omega (arith, f))
 
-  -- what each layer of a check says of the cause, and of the place of a refusal
-  cause_at : (p s t : List ℕ) (place : Place) (c : _) → Checked p s t asked (Unjustified place c) → c ≡ cause.NoAtom
-  cause_at p s t place c (inl h) = absurd h
-  cause_at p s t place c (inr (program, reads, inl h)) = absurd h
-  cause_at p s t place c (inr (program, reads, inr (small, spec_reads, inl h))) = absurd h
-  cause_at p s t place c (inr (program, reads, inr (small, spec_reads, inr (script, script_reads, none, k)))) = k.0
-
-  start_at : (p s t name : List ℕ) (place : Place) (code : Code) → Checked p s t asked (Refused name place code) → place ≡ start
-  start_at p s t name place code (inl h) = h.1
-  start_at p s t name place code (inr (program, reads, inl h)) = h.1
-  start_at p s t name place code (inr (program, reads, inr (small, spec_reads, inl h))) = h.1
-  start_at p s t name place code (inr (program, reads, inr (small, spec_reads, inr (script, script_reads, none, k)))) = absurd k
-
-  cause_of : (place : Place) (c : _) (r : Report) → r ≡ Unjustified place c → Deserves words asked r → c ≡ cause.NoAtom
-  cause_of place c r e (usage h n) = absurd cc
-  cause_of place c r e (memory p s t h) = absurd cc
-  cause_of place c r e (checked p s t h k) = cause_at p s t place c (subst (λ x. Checked p s t asked x) e k)
-
-  place_of : (name : List ℕ) (place : Place) (code : Code) (r : Report) → r ≡ Refused name place code → Deserves words asked r → place ≡ start
-  place_of name place code r e (usage h n) = absurd cc
-  place_of name place code r e (memory p s t h) = absurd cc
-  place_of name place code r e (checked p s t h k) = start_at p s t name place code (subst (λ x. Checked p s t asked x) e k)
-
-  pub unjustified : IsOf words asked heard 1 → (place : Place) × Answers words asked heard (Unjustified place cause.NoAtom)
-  unjustified x = go x.report x.is x.answers
+  pub usage_line : status ≡ 2 → Answers words a h Usage
+  usage_line e = let x = below_six 2 e (omega arith) in go x.report x.is x.answers
     where
-      go : (r : Report) → status_of r ≡ 1 → Answers words asked heard r → (place : Place) × Answers words asked heard (Unjustified place cause.NoAtom)
-      go AcceptedWithoutCrash e a = absurd (omega (arith, e))
-      go (Unjustified place c) e a = (place, subst (λ k. Answers words asked heard (Unjustified place k)) (cause_of place c (Unjustified place c) refl a.0) a)
-      go Usage e a = absurd (omega (arith, e))
-      go (CannotRead name) e a = absurd (omega (arith, e))
-      go (Refused name place code) e a = absurd (omega (arith, e))
-      go OutOfMemory e a = absurd (omega (arith, e))
+      go : (q : Report) → status_of q ≡ 2 → Answers words a h q → Answers words a h Usage
+      go AcceptedWithoutCrash f k = absurd (omega (arith, f))
+      go (Unjustified place why) f k = absurd (omega (arith, f))
+      go Usage f k = k
+      go (CannotRead name) f k = absurd (omega (arith, f))
+      go (Refused name place code) f k = absurd (omega (arith, f))
+      go OutOfMemory f k = absurd (omega (arith, f))
 
-  pub refused : IsOf words asked heard 4 → (name : List ℕ) × (code : Code) × Answers words asked heard (Refused name start code)
-  refused x = go x.report x.is x.answers
+  pub memory : status ≡ 5 → Answers words a h OutOfMemory
+  memory e = let x = below_six 5 e (omega arith) in go x.report x.is x.answers
     where
-      go : (r : Report) → status_of r ≡ 4 → Answers words asked heard r → (name : List ℕ) × (code : Code) × Answers words asked heard (Refused name start code)
-      go AcceptedWithoutCrash e a = absurd (omega (arith, e))
-      go (Unjustified place c) e a = absurd (omega (arith, e))
-      go Usage e a = absurd (omega (arith, e))
-      go (CannotRead name) e a = absurd (omega (arith, e))
-      go (Refused name place code) e a = (name, code, subst (λ q. Answers words asked heard (Refused name q code)) (place_of name place code (Refused name place code) refl a.0) a)
-      go OutOfMemory e a = absurd (omega (arith, e))
+      go : (q : Report) → status_of q ≡ 5 → Answers words a h q → Answers words a h OutOfMemory
+      go AcceptedWithoutCrash f k = absurd (omega (arith, f))
+      go (Unjustified place why) f k = absurd (omega (arith, f))
+      go Usage f k = absurd (omega (arith, f))
+      go (CannotRead name) f k = absurd (omega (arith, f))
+      go (Refused name place code) f k = absurd (omega (arith, f))
+      go OutOfMemory f k = k
+
+  pub unread : status ≡ 3 → (name : List ℕ) × Answers words a h (CannotRead name)
+  unread e = let x = below_six 3 e (omega arith) in go x.report x.is x.answers
+    where
+      go : (q : Report) → status_of q ≡ 3 → Answers words a h q → (name : List ℕ) × Answers words a h (CannotRead name)
+      go AcceptedWithoutCrash f k = absurd (omega (arith, f))
+      go (Unjustified place why) f k = absurd (omega (arith, f))
+      go Usage f k = absurd (omega (arith, f))
+      go (CannotRead name) f k = (name, k)
+      go (Refused name place code) f k = absurd (omega (arith, f))
+      go OutOfMemory f k = absurd (omega (arith, f))
+
+  pub unjustified : status ≡ 1 → (place : Place) × Answers words a h (Unjustified place NoAtom)
+  unjustified e = let x = below_six 1 e (omega arith) in go x.report x.is x.answers
+    where
+      go : (q : Report) → status_of q ≡ 1 → Answers words a h q → (place : Place) × Answers words a h (Unjustified place NoAtom)
+      go AcceptedWithoutCrash f k = absurd (omega (arith, f))
+      go (Unjustified place why) f k = (place, subst (λ c. Answers words a h (Unjustified place c)) (cause_of words a place why (Unjustified place why) refl k.0.given) k)
+      go Usage f k = absurd (omega (arith, f))
+      go (CannotRead name) f k = absurd (omega (arith, f))
+      go (Refused name place code) f k = absurd (omega (arith, f))
+      go OutOfMemory f k = absurd (omega (arith, f))
+
+  pub refused : status ≡ 4 → (name : List ℕ) × (code : Code) × Answers words a h (Refused name start code)
+  refused e = let x = below_six 4 e (omega arith) in go x.report x.is x.answers
+    where
+      go : (q : Report) → status_of q ≡ 4 → Answers words a h q → (name : List ℕ) × (code : Code) × Answers words a h (Refused name start code)
+      go AcceptedWithoutCrash f k = absurd (omega (arith, f))
+      go (Unjustified place why) f k = absurd (omega (arith, f))
+      go Usage f k = absurd (omega (arith, f))
+      go (CannotRead name) f k = absurd (omega (arith, f))
+      go (Refused name place code) f k = (name, code, subst (λ q. Answers words a h (Refused name q code)) (place_of words a name place code (Refused name place code) refl k.0.given) k)
+      go OutOfMemory f k = absurd (omega (arith, f))
 
   -- ---- usage
 
-  pub usage_of : (r : Report) → Deserves words asked r → IsNoCommand words → r ≡ Usage
-  usage_of r (usage h n) k = refl
-  usage_of r (memory p s t h) k = absurd (k p s t h)
-  usage_of r (checked p s t h q) k = absurd (k p s t h)
+  pub usage_only : status ≡ 2 → IsNoCommand words
+  usage_only e = let x = usage_line e in only_usage words (outside a.held) Usage refl x.0.given
 
-  pub only_usage : (r : Report) → r ≡ Usage → Deserves words asked r → IsNoCommand words
-  only_usage r e (usage h n) = h
-  only_usage r e (memory p s t h) = absurd cc
-  only_usage r e (checked p s t h q) = absurd (no_usage p s t (subst (λ x. Checked p s t asked x) e q))
+  pub usage_status : IsNoCommand words → (status ≡ 2) ⊎ (status ≡ 6)
+  usage_status n = go status t
     where
-      no_usage : (p s t : List ℕ) → Checked p s t asked Usage → ⊥
-      no_usage p s t (inl h) = h
-      no_usage p s t (inr (program, reads, inl h)) = h
-      no_usage p s t (inr (program, reads, inr (small, spec_reads, inl h))) = h
-      no_usage p s t (inr (program, reads, inr (small, spec_reads, inr (script, script_reads, none, k)))) = k
-
-  pub usage_status : (r : Report) (status : ℕ) → Deserves words asked r → Tells r heard status → IsNoCommand words → (status ≡ 2) ⊎ (status ≡ 6)
-  usage_status r status d (whole w f) k = inl (ap status_of (usage_of r d k))
-  usage_status r status d (front o w) k = inr refl
+      go : (status : ℕ) → Tells r h status → (status ≡ 2) ⊎ (status ≡ 6)
+      go status (whole w f) = inl (ap status_of (usage_of words (outside a.held) r n d.given))
+      go status (cut o w) = inr refl

@@ -1,7 +1,10 @@
-pub mod Answers
-pub mod Deserved
+pub mod Check
+pub mod Commands
+pub mod Comparing
+pub mod Files
+pub mod Forms
+pub mod Laws
+pub mod Promise
 pub mod Reading
-pub mod Report
+pub mod Run
 pub mod SmallScript
-pub mod Stages
-pub mod Told

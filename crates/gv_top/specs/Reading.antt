@@ -22,7 +22,8 @@ abbrev pub block : List Placed → ReadFrom Placed SmallBlock
 block ts =
     option_and_then (λ a. option_and_then (λ b. option_and_then (λ c. option_and_then (λ d.
     option_map (λ after. (record { name = b.0; step = d.0 }, after)) (behind_placed (plain (codes "; }")) d.1))
-    (place_at (codes "step") c)) (behind_placed (plain (codes "{ open; sim me; close;")) b.1)) (word_placed is_operation_name a)) (behind_placed (plain (codes "op")) ts)
+    (place_at (codes "step") c)) (behind_placed (plain (codes "{ open; sim me; close;")) b.1)) (word_placed is_operation_name a))
+    (behind_placed (plain (codes "op")) ts)
 
 abbrev pub is_nothing : List Placed → Bool
 is_nothing [] = true

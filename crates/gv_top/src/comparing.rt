@@ -1,7 +1,7 @@
 //! Operations of a package, a specification and a script beside each other.
 
 ghost use Rattle.std.specs.Prelude.{◌≡◌, ◌↔◌, length, map, IsTrue, IsSome, IfSome, IfNone, OnSome};
-ghost use Rattle.gv_top.specs.Deserved.{SameSum, AllSameSums, IsFirstDifference};
+ghost use Rattle.gv_top.specs.Comparing.{SameSum, AllSameSums, IsFirstDifference};
 
 use crate::small_script::SmallBlock;
 use gv_base::{List, Name, Part, Place, SmallOp, Turn};
@@ -64,7 +64,8 @@ fn same_interface_of(one: &SmallOp, other: &SmallOp) -> bool
 
 /// Whether two lists of operations have the same names and parameters, in the same order.
 pub fn same_interface(ops: &[SmallOp], other: &[SmallOp]) -> bool
-    ensures { IsTrue result ↔ ((map (λ op. op.name) ops.now ≡ map (λ op. op.name) other.now) × (map (λ op. op.params) ops.now ≡ map (λ op. op.params) other.now)) }
+    ensures { IsTrue result ↔ ((map (λ op. op.name) ops.now ≡ map (λ op. op.name) other.now)
+        × (map (λ op. op.params) ops.now ≡ map (λ op. op.params) other.now)) }
 {
     if ops.len() != other.len() {
         return false;

@@ -1,16 +1,15 @@
 //! The program, over files and a sink that are handed in.
 #![tactic(auto)]
 
-mod checking;
+mod check;
+mod commands;
 mod comparing;
 mod files;
+mod forms;
+mod laws;
 mod program;
-mod report;
 mod small_script;
 
+pub use laws::{one_package, one_script, one_specification};
 pub use program::run;
-pub use report::{Cause, Report, status, text};
 pub use small_script::{SmallBlock, SmallScript, read_small_script};
-
-#[cfg(test)]
-mod tests;

@@ -1,0 +1,49 @@
+//! The outcome of a command line and its files.
+
+ghost use Rattle.std.specs.Prelude.{◌≡◌};
+ghost use Rattle.gv_report.specs.Report.{status_of};
+
+use crate::cause::Cause;
+use gv_base::{Code, Name, Place};
+
+/// The outcome of a command line and its files. This project's own.
+#[derive(Debug, Drop)]
+pub enum Report {
+    /// The words are no command.
+    Usage,
+    /// Memory was refused.
+    OutOfMemory,
+    /// A file could not be fetched.
+    CannotRead {
+        name: Name,
+    },
+    /// A file's text isn't of its form, or disagrees with the file before it.
+    Refused {
+        name: Name,
+        place: Place,
+        code: Code,
+    },
+    /// The first command of the script that isn't justified.
+    Unjustified {
+        place: Place,
+        cause: Cause,
+    },
+    /// The package refines the specification in every run without a crash.
+    AcceptedWithoutCrash,
+}
+
+impl Report {
+    /// The status that the program ends with where the report is written, from 0 to 5.
+    pub fn status(&self) -> u8
+        ensures { result ≡ status_of self.now }
+    {
+        match self {
+            Report::AcceptedWithoutCrash => 0,
+            Report::Unjustified { .. } => 1,
+            Report::Usage => 2,
+            Report::CannotRead { .. } => 3,
+            Report::Refused { .. } => 4,
+            Report::OutOfMemory => 5,
+        }
+    }
+}

@@ -1,0 +1,102 @@
+//! The line and the status of each report, and a report that is cut off.
+
+use gv_base::{Code, List, MemSink, Name, Place, SureSink};
+use gv_report::{Answer, Cause, Report, text};
+use std::alloc::Global;
+use std::process::Abort;
+use std::test::Fail;
+
+const PLACE: Place = Place {
+    line: 7,
+    column: 31,
+};
+
+// The report's line, and its status when it is written.
+fn tells<R: Abort>(
+    rt: &R,
+    alloc: Global,
+    report: Report,
+    status: u8,
+    line: &[u8],
+) -> Result<(), Fail> {
+    assert_eq!(rt; report.status(), status);
+    assert_eq!(rt; text(alloc, &report)?.as_slice(), line);
+    let mut sink = MemSink::new(alloc, 1000, List::new(alloc))?;
+    let answer = Answer::new(alloc, report);
+    assert_eq!(rt; answer.tell(&mut sink), status);
+    assert_eq!(rt; sink.written().as_slice(), line);
+    assert_eq!(rt; answer.tell(&mut SureSink::new()), status);
+    Ok(())
+}
+
+#[test]
+fn tells_each_report(rt: HostRuntime) -> Result<(), Fail> {
+    let alloc = rt.alloc();
+    let name = Name::from_slice(alloc, b"a file")?;
+    let accepted = Report::AcceptedWithoutCrash;
+    tells(
+        &rt,
+        alloc,
+        accepted,
+        0,
+        b"accepted for runs without crash\n",
+    )?;
+    let unjustified = Report::Unjustified {
+        place: PLACE,
+        cause: Cause::NoAtom,
+    };
+    tells(&rt, alloc, unjustified, 1, b"unjustified 7:31 NoAtom\n")?;
+    let unread = Report::CannotRead {
+        name: name.copy(alloc)?,
+    };
+    tells(&rt, alloc, unread, 3, b"cannot read a file\n")?;
+    let refused = Report::Refused {
+        name,
+        place: PLACE,
+        code: Code::TooLong,
+    };
+    tells(&rt, alloc, refused, 4, b"a file:7:31 TooLong\n")?;
+    tells(&rt, alloc, Report::OutOfMemory, 5, b"out of memory\n")?;
+    tells(
+        &rt,
+        alloc,
+        Report::Usage,
+        2,
+        b"usage: goosecheck check PKG SPEC SCRIPT, replay PKG SPEC SCHEDULE, explain SPEC HISTORY MOVES, points PKG, gen NUMBER, each with or without json\n",
+    )
+}
+
+// A sink with room for eight bytes, and one whose first put fails.
+#[test]
+fn tells_six_where_a_put_fails(rt: HostRuntime) -> Result<(), Fail> {
+    let alloc = rt.alloc();
+    for (room, fails, written) in [(8, 2, "out of m"), (1000, 1, "")] {
+        let fails = List::from_vec(Vec::from_slice(alloc, &[fails])?);
+        let mut sink = MemSink::new(alloc, room, fails)?;
+        let answer = Answer::new(alloc, Report::OutOfMemory);
+        assert_eq!(rt; answer.tell(&mut sink), 6);
+        assert_eq!(rt; sink.written().as_slice(), written.as_bytes());
+    }
+    Ok(())
+}
+
+// A text of two pieces and one byte more, whose second and third put fail in turn.
+#[test]
+fn puts_pieces_of_65536_bytes(rt: HostRuntime) -> Result<(), Fail> {
+    let alloc = rt.alloc();
+    let bytes = vec![in alloc; b'n'; 131_061]?;
+    let name = Name::from_vec(alloc, bytes)?;
+    let answer = Answer::new(alloc, Report::CannotRead { name });
+    for (fails, status, length) in [(2, 6, 65_536), (3, 6, 131_072), (4, 0, 0)] {
+        let fails = List::from_vec(Vec::from_slice(alloc, &[fails])?);
+        let mut sink = MemSink::new(alloc, 200_000, fails)?;
+        if status == 6 {
+            assert_eq!(rt; answer.tell(&mut sink), 6);
+            assert_eq!(rt; sink.written().len(), length);
+        } else {
+            assert_eq!(rt; answer.tell(&mut sink), 3);
+            assert_eq!(rt; sink.written().len(), 131_074);
+        }
+    }
+    Ok(())
+}

@@ -1,0 +1,5 @@
+use Rattle.gv_top.proofs.LawLemmas as laws
+use Rattle.gv_top.proofs.laws.one_script.Goals as goal
+
+pub returns : goal.returns
+returns c = laws.one_script

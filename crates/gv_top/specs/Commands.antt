@@ -1,0 +1,67 @@
+-- The table of commands: their words, their files, and what is answered.
+use Rattle.std.specs.Prelude.{◌≡◌, ℕ, Bool, false, List, [], ◌∷◌, map, Result, Ok, Err, codes, string_bytes}
+use Rattle.std.specs.Str.{bytes_eq}
+use Rattle.std.specs.declared.string.String.{String}
+use Rattle.std.specs.declared.alloc.Global.{Global}
+use Rattle.gv_report.specs.declared.report.Report.{Report}
+use Rattle.gv_report.specs.declared.report.Report.TheVariants as report
+use Rattle.gv_top.specs.declared.commands.Command as held
+use Rattle.gv_top.specs.declared.commands.Command.TheVariants as held_command
+use Rattle.gv_top.specs.declared.check.Verdict.{Verdict}
+use Rattle.gv_top.specs.declared.files.Halt.{Halt}
+use Rattle.gv_top.specs.declared.files.Halt.TheVariants.{NoMemory, CannotRead, Refused}
+use Rattle.gv_top.specs.Files.{Source}
+use Rattle.gv_top.specs.Check as check_of
+
+-- ---- reports
+
+abbrev pub halt_report : Halt → Report
+halt_report NoMemory = report.OutOfMemory
+halt_report (CannotRead name) = report.CannotRead name
+halt_report (Refused name place code) = report.Refused name place code
+
+-- the report of what came of a command
+abbrev pub reported : {O : Type 0} → (O → Report) → Result O Halt → Report
+reported report_of (Ok outcome) = report_of outcome
+reported report_of (Err halt) = halt_report halt
+
+-- ---- the table: a command has a line in each part
+
+pub data Command : Type 0 where
+  check : (package_name spec_name script_name : List ℕ) → Command
+
+abbrev pub words_of : Command → List (List ℕ)
+words_of (check package_name spec_name script_name) = codes "check" ∷ package_name ∷ spec_name ∷ script_name ∷ []
+
+-- the names of its files, in the order in which they are fetched
+abbrev pub files_of : Command → List (List ℕ)
+files_of (check package_name spec_name script_name) = package_name ∷ spec_name ∷ script_name ∷ []
+
+-- the reports that it may give over what the files give
+abbrev pub Comes : Source → Command → Report → Type 0
+Comes source (check package_name spec_name script_name) r =
+    (outcome : Result Verdict Halt) × check_of.Checks source package_name spec_name script_name outcome × (r ≡ reported check_of.report_of outcome)
+
+-- ---- words
+
+-- the words' bytes
+abbrev pub texts : List (String Global) → List (List ℕ)
+texts words = map string_bytes words
+
+-- a last word `json` is always that word
+abbrev pub asks_for_json : List (List ℕ) → Bool
+asks_for_json [] = false
+asks_for_json (word ∷ []) = bytes_eq word (codes "json")
+asks_for_json (word ∷ next ∷ words) = asks_for_json (next ∷ words)
+
+-- The words are a command's. With a last word `json` they are none, while there is no report of that form.
+pub record Asks (words : List (List ℕ)) (command : Command) : Type 0 where
+  pub plain : asks_for_json words ≡ false
+  pub words_are : words ≡ words_of command
+
+abbrev pub IsNoCommand : List (List ℕ) → Type 0
+IsNoCommand words = (command : Command) → Asks words command → ⊥
+
+-- a command as the program holds it
+abbrev pub named : held.Command → Command
+named (held_command.Check names) = check names.«package».now names.spec.now names.script.now

@@ -1,0 +1,80 @@
+-- What the words and the files deserve, and what `run` answers.
+use Rattle.std.specs.Prelude.{◌≡◌, ◌≢◌, ℕ, ◌-◌, ◌^◌, ◌<◌, ◌≤◌, ◌⊎◌, List}
+use Rattle.gv_base.specs.declared.answers.Place.{Place}
+use Rattle.gv_base.specs.declared.answers.Code.{Code}
+use Rattle.gv_small.specs.Tokens.{start}
+use Rattle.gv_base.specs.Outside.{Told}
+use Rattle.gv_report.specs.declared.cause.Cause.TheVariants.{NoAtom}
+use Rattle.gv_report.specs.declared.report.Report.{Report}
+use Rattle.gv_report.specs.declared.report.Report.TheVariants.{Usage, OutOfMemory, CannotRead, Refused, Unjustified, AcceptedWithoutCrash}
+use Rattle.gv_report.specs.Report.{status_of, text_of}
+use Rattle.gv_report.specs.Heard as sink
+use Rattle.gv_report.specs.Heard.{Heard, IsWritten, IsPrefixWritten}
+use Rattle.gv_top.specs.Files.{Asked, Failed, NoneFailed, Source, outside, as_told, IsAbsent}
+use Rattle.gv_top.specs.Commands.{Command, Asks, IsNoCommand, Comes}
+
+-- the reports that words may have, over what the files give: the usage line where they are no command, else what comes of it
+pub data Gives (source : Source) (words : List (List ℕ)) : Report → Type 0 where
+  usage : IsNoCommand words → Gives source words Usage
+  done : (command : Command) {r : Report} → Asks words command → Comes source command r → Gives source words r
+
+-- a fetch failed in between just where the report says so, and of the name that it says
+abbrev pub IsBlamedIn : Asked → Report → Type 0
+IsBlamedIn a (CannotRead name) = Failed a name
+IsBlamedIn a OutOfMemory = Unit {0}
+IsBlamedIn a _ = NoneFailed a
+
+-- a report that the words, what files hold and what was asked of them deserve
+pub record Deserves (words : List (List ℕ)) (a : Asked) (r : Report) : Type 0 where
+  pub given : Gives (outside a.held) words r
+  pub blamed : IsBlamedIn a r
+
+-- the report that the words and what is told of the files define
+abbrev pub Defines : List (List ℕ) → (List ℕ → Told) → Report → Type 0
+Defines words held r = Gives (as_told held) words r
+
+-- each fetch that failed in between was of a file that is told as absent
+abbrev pub OnlyAbsentFailed : Asked → Type 0
+OnlyAbsentFailed a = (name : List ℕ) → Failed a name → IsAbsent (a.held name)
+
+-- no put failed in between, and the count is not at its end
+abbrev pub NoPutFailed : Heard → Type 0
+NoPutFailed h = sink.NoneFailed h × (h.faults_before < 2 ^ 64 - 1)
+
+-- this report's status, and its text written
+abbrev pub IsTold : Heard → Report → ℕ → Type 0
+IsTold h r status = (status ≡ status_of r) × IsWritten h (text_of r)
+
+-- a put failed, and a prefix of the text of a report that was deserved was written
+pub record IsCutOff (words : List (List ℕ)) (a : Asked) (h : Heard) : Type 0 where
+  pub report : Report
+  pub deserved : Deserves words a report
+  pub fault : sink.OneFailed h
+  pub written : IsPrefixWritten h (text_of report)
+
+-- this report was deserved, and all of its text was written
+abbrev pub Answers : List (List ℕ) → Asked → Heard → Report → Type 0
+Answers words a h r = Deserves words a r × IsWritten h (text_of r)
+
+-- `run` on these words ended with this status; what it asked of the files, and what the sink heard of it.
+pub record IsAnswered (words : List (List ℕ)) (a : Asked) (h : Heard) (status : ℕ) : Type 0 where
+  -- Words that are no command are answered by 2, and never by want of memory; 2 comes for no other words.
+  pub usage : IsNoCommand words → (status ≡ 2) ⊎ (status ≡ 6)
+  pub usage_only : status ≡ 2 → IsNoCommand words
+  -- Each status below 6 comes with a report that was deserved and written whole, and no put failed.
+  pub accepted : status ≡ 0 → Answers words a h AcceptedWithoutCrash
+  pub unjustified : status ≡ 1 → (place : Place) × Answers words a h (Unjustified place NoAtom)
+  pub usage_line : status ≡ 2 → Answers words a h Usage
+  pub unread : status ≡ 3 → (name : List ℕ) × Answers words a h (CannotRead name)
+  pub refused : status ≡ 4 → (name : List ℕ) × (code : Code) × Answers words a h (Refused name start code)
+  pub memory : status ≡ 5 → Answers words a h OutOfMemory
+  pub calm : status ≤ 5 → sink.NoneFailed h
+  -- 6 comes only where a put failed, and then always; a prefix of such a report was written.
+  pub cut_off : status ≡ 6 → IsCutOff words a h
+  pub always_cut_off : h.faults_before < h.faults_now → status ≡ 6
+  -- Where the words and what is told of the files define a report, each fetch that failed was of a file that is told as
+  -- absent, and no put failed, this report is answered, or want of memory is. So each status comes wherever it must.
+  pub exact : (r : Report) → Defines words a.held r → r ≢ OutOfMemory → OnlyAbsentFailed a → NoPutFailed h →
+      IsTold h r status ⊎ IsTold h OutOfMemory status
+  -- There is no other status.
+  pub known : status ≤ 6

@@ -1,0 +1,85 @@
+//! The table of commands.
+
+ghost use Rattle.std.specs.Prelude.{◌≡◌, ℕ, List as Seq, IfSome, IfNone, map, string_bytes};
+ghost use Rattle.gv_top.specs.Check.{report_of};
+ghost use Rattle.gv_top.specs.Commands as table;
+ghost use Rattle.gv_top.specs.Files.{asked, outside, IsBlamed};
+ghost use Rattle.gv_top.specs.Run.{IsBlamedIn};
+
+use crate::check::{CheckWords, Verdict, check};
+use crate::files::Halt;
+use gv_base::Files;
+use gv_report::Report;
+use std::alloc::Global;
+
+/// A command with its words. This project's own.
+#[derive(Clone, Copy)]
+pub enum Command<'a> {
+    Check(CheckWords<'a>),
+}
+
+// Whether the last word is `json`.
+fn asks_for_json(words: &[String]) -> bool
+    ensures { result ≡ table.asks_for_json (table.texts words.now) }
+{
+    match words.last() {
+        Some(word) => word.as_str() == "json",
+        None => false,
+    }
+}
+
+/// The command that the words are. A last word `json` is always that word; as there is no report of
+/// that form, words with it are no command.
+pub fn command_of(words: &Vec<String>) -> Option<Command>
+    ensures some { IfSome result (λ c. table.Asks (table.texts words.now.items) (table.named c)) }
+    ensures none { IfNone result (table.IsNoCommand (table.texts words.now.items)) }
+{
+    let words = words.as_slice();
+    if asks_for_json(words) {
+        return None;
+    }
+    match words {
+        [command, package, spec, script] if command.as_str() == "check" => {
+            Some(Command::Check(CheckWords {
+                package: package.as_str(),
+                spec: spec.as_str(),
+                script: script.as_str(),
+            }))
+        }
+        _ => None,
+    }
+}
+
+impl Halt {
+    /// The report that says so.
+    pub fn report(self) -> Report
+        ensures { result ≡ table.halt_report self }
+    {
+        match self {
+            Halt::NoMemory => Report::OutOfMemory,
+            Halt::CannotRead { name } => Report::CannotRead { name },
+            Halt::Refused { name, place, code } => Report::Refused { name, place, code },
+        }
+    }
+}
+
+// The report of what came of a check.
+fn check_report(outcome: Result<Verdict, Halt>) -> Report
+    ensures { result ≡ table.reported report_of outcome }
+{
+    match outcome {
+        Ok(verdict) => verdict.report(),
+        Err(halt) => halt.report(),
+    }
+}
+
+/// The report of what comes of a command.
+pub fn perform<F: Files>(alloc: Global, command: &Command, files: &mut F) -> Report
+    ensures comes { table.Comes (outside (F.held files.old)) (table.named command.now) result }
+    ensures blame { IsBlamedIn (asked F.held F.faults F.failed files.old files.new) result }
+    ensures kept { (other : Seq ℕ) → F.held files.new other ≡ F.held files.old other }
+{
+    match command {
+        Command::Check(names) => check_report(check(alloc, names, files)),
+    }
+}
