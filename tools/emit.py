@@ -1,5 +1,6 @@
-"""Prints the generated files of a grammar, in the layout of `rt fmt`."""
+"""Prints the generated files of a grammar: its tables, and what its acts are made from (emit_acts)."""
 
+from emit_acts import acts_source, acts_spec, build_invariants, make_answers, parts_source
 from grammar_file import MARKS, upper
 
 WIDTH = 100
@@ -9,17 +10,23 @@ def files(grammar, solved):
     """The generated files, by path within the crate."""
     stem = grammar.language
     title = stem.title()
-    folder = f"proofs/{stem}_acts"
-    return {
-        f"src/{stem}_table.rt": table_source(grammar, solved),
+    folder = f"proofs/generated/{stem}_acts"
+    out = {
+        f"src/generated/{stem}_table.rt": table_source(grammar, solved),
+        f"src/generated/{stem}_acts.rt": parts_source(grammar) if grammar.code == "no" else acts_source(grammar),
         f"specs/{title}Table.antt": table_spec(grammar),
-        f"src/{stem}_acts.rt": acts_source(grammar),
         f"specs/{title}Acts.antt": acts_spec(grammar),
         f"proofs/{title}Predictive.antt": predictive_proof(grammar),
-        f"proofs/{stem}_table/{stem}_grammar/Answers.antt": grammar_answers(grammar),
-        f"{folder}/build_parts/Invariants.antt": build_invariants(grammar),
-        f"{folder}/make/Answers.antt": make_answers(grammar),
+        f"proofs/generated/{stem}_table/{stem}_grammar/Answers.antt": grammar_answers(grammar),
     }
+    if grammar.code != "no":
+        out[f"{folder}/build_parts/Invariants.antt"] = build_invariants(grammar)
+        out[f"{folder}/make/Answers.antt"] = make_answers(grammar)
+    if grammar.fragment:
+        out[f"specs/{title}Fragment.antt"] = fragment_spec(grammar)
+    if grammar.fragment or grammar.base:
+        out[f"proofs/{title}Contains.antt"] = contains_proof(grammar)
+    return out
 
 
 def made_from(grammar):
@@ -46,16 +53,25 @@ def act_constant(word):
     return word if word in MARKS else "ACT_" + word
 
 
-def kind_constant(word):
-    return "KIND_" + upper(word)
+def snake(word):
+    return upper(word).lower()
+
+
+def symbol(grammar, word):
+    """What a word of a row is, with its constant."""
+    if word.startswith("{"):
+        return "Act", act_constant(word[1:-1])
+    if word in grammar.names:
+        return "Name", name_constant(word)
+    return "Token", set_constant(word)
 
 
 def symbol_source(grammar, word):
-    if word.startswith("{"):
-        return f"Symbol::Act({act_constant(word[1:-1])})"
-    if word in grammar.names:
-        return f"Symbol::Name({name_constant(word)})"
-    return f"Symbol::Token({set_constant(word)})"
+    return "Symbol::{}({})".format(*symbol(grammar, word))
+
+
+def symbol_term(grammar, word):
+    return "{} {}".format(*symbol(grammar, word))
 
 
 def constants(pairs, kind):
@@ -84,22 +100,52 @@ def starts(rows):
     return out
 
 
+def numbered(grammar, what, constant):
+    """The constants of a grammar's own names, sets or classes; what it includes has those of its own."""
+    items, own = list(getattr(grammar, what)), grammar.own(what)
+    first = len(items) - len(own)
+    return [(constant(item), first + at) for at, item in enumerate(own)]
+
+
+def own_constants(grammar):
+    first_act = len(grammar.act_names()) - len(grammar.acts)
+    out = constants([(name, number + 1) for name, number in numbered(grammar, "classes", class_constant)], "u8")
+    out += constants(numbered(grammar, "sets", set_constant), "u8")
+    out += constants(numbered(grammar, "names", name_constant), "u8")
+    out += constants([("ACT_" + act.name, first_act + at) for at, act in enumerate(grammar.acts)], "u8")
+    if grammar.fragment:
+        out += f"/// One more than the last act.\npub const ACTS_END: u8 = {len(grammar.act_names())};\n\n"
+    return out + constants(numbered(grammar, "rules", rule_constant), "u16")
+
+
+def included_constants(grammar):
+    """The constants of an included grammar that the table's rows name."""
+    base, found = grammar.base, set()
+    for rule in grammar.rules:
+        for word in rule.words:
+            kind, constant = symbol(grammar, word)
+            of_base = kind == "Act" and word[1:-1] in base.act_names() or word in base.names or word in base.sets
+            if of_base and word.strip("{}") not in MARKS:
+                found.add(constant)
+    return sorted(found)
+
+
 def table_source(grammar, solved):
     stem, title = grammar.language, grammar.language.title()
     marks = [mark for mark in MARKS if any("{" + mark + "}" in rule.words for rule in grammar.rules)]
     rows = [rule.words for rule in grammar.rules]
     sets = [[grammar.classes.index(c) + 1 for c in members] for members in grammar.sets.values()]
+    roots = [grammar.names.index(root) for root in grammar.root_kinds()]
     out = f"//! The {stem} grammar as tables. {made_from(grammar)}\n"
-    out += "ghost use Rattle.std.specs.Prelude.{◌≡◌, true};\n"
+    out += "ghost use Rattle.std.specs.Prelude.{◌≡◌};\n"
     out += "ghost use Rattle.gv_grammar.specs.Derivation.{tables_of};\n"
-    out += "ghost use Rattle.gv_grammar.specs.Predictive.{is_predictive};\n"
+    out += "ghost use Rattle.gv_grammar.specs.Predictive.{MayBegin};\n"
     out += f"ghost use Rattle.{grammar.crate}.specs.{title}Table.{{{stem}_tables}};\n\n"
-    out += f"use gv_grammar::{import_list(['Grammar', 'Symbol'] + marks)};\n\n"
-    out += constants([(class_constant(c), at + 1) for at, c in enumerate(grammar.classes)], "u8")
-    out += constants([(set_constant(s), at) for at, s in enumerate(grammar.sets)], "u8")
-    out += constants([(name_constant(n), at) for at, n in enumerate(grammar.names)], "u8")
-    out += constants([(act_constant(a), at) for at, a in enumerate(grammar.act_names()) if a not in MARKS], "u8")
-    out += constants([(rule_constant(r), at) for at, r in enumerate(grammar.rules)], "u16")
+    out += f"use gv_grammar::{import_list(['Grammar', 'Symbol'] + marks)};\n"
+    if grammar.base:
+        out += wrapped_use(f"{grammar.base.crate}::generated::{grammar.base.language}_table", included_constants(grammar)) + "\n"
+    out += "\n" + own_constants(grammar)
+    out += number_array("ROOTS", "u8", roots)
     out += number_array("NAMES", "u8", [grammar.names.index(rule.name) for rule in grammar.rules])
     out += number_array("STARTS", "u16", starts(rows))
     out += f"pub static SYMBOLS: [Symbol; {starts(rows)[-1]}] = [\n"
@@ -113,10 +159,16 @@ def table_source(grammar, solved):
     out += f"pub const WIDTH: u8 = {len(grammar.classes) + 1};\n\n"
     out += f"/// The {stem} grammar.\npub fn {stem}_grammar() -> Grammar\n"
     out += f"    ensures tables {{ tables_of result ≡ {stem}_tables }}\n"
-    out += "    ensures predictive { is_predictive (tables_of result) ≡ true }\n{\n    Grammar {\n"
-    for name in ("names", "symbols", "starts", "classes", "set_starts", "table"):
+    for root in grammar.root_kinds():
+        out += f"    ensures {snake(root)} {{ MayBegin (tables_of result) {root_constant(grammar, root)} }}\n"
+    out += "{\n    Grammar {\n"
+    for name in ("roots", "names", "symbols", "starts", "classes", "set_starts", "table"):
         out += f"        {name}: &{name.upper()},\n"
     return out + "        width: WIDTH,\n    }\n}\n"
+
+
+def root_constant(grammar, root):
+    return name_constant(root)
 
 
 def predictive_proof(grammar):
@@ -134,100 +186,18 @@ unfolding is_predictive certificate_of
 
 def grammar_answers(grammar):
     stem, title = grammar.language, grammar.language.title()
-    return f"""-- {made_from(grammar)}
-use Rattle.{grammar.crate}.proofs.{title}Predictive.{{{stem}_predictive}}
-use Rattle.{grammar.crate}.proofs.{stem}_table.{stem}_grammar.Goals as goal
-
-pub returns-clause-predictive : goal.returns-clause-predictive
-returns-clause-predictive c = {stem}_predictive
-"""
+    out = f"-- {made_from(grammar)}\nuse Rattle.std.proofs.Common.{{refl}}\n"
+    out += f"use Rattle.{grammar.crate}.proofs.{title}Predictive.{{{stem}_predictive}}\n"
+    out += f"use Rattle.{grammar.crate}.proofs.generated.{stem}_table.{stem}_grammar.Goals as goal\n"
+    for root in grammar.root_kinds():
+        goal = f"returns-clause-{snake(root)}"
+        out += f"\npub {goal} : goal.{goal}\n{goal} c = ({stem}_predictive, refl)\n"
+    return out
 
 
 def import_list(names):
     """The names of one `use`."""
     return "{" + ", ".join(sorted(names)) + "}"
-
-
-def table_spec(grammar):
-    stem, title = grammar.language, grammar.language.title()
-    arrays = ["NAMES", "SYMBOLS", "STARTS", "CLASSES", "SET_STARTS", "TABLE", "WIDTH"]
-    fields = "; ".join(f"{name.lower()} = {name}" for name in arrays)
-    return (
-        f"-- The {stem} grammar as lists. {made_from(grammar)}\n"
-        "use Rattle.gv_grammar.specs.Derivation.{Tables}\n"
-        f"use Rattle.{grammar.crate}.specs.declared.{stem}_table.TheConstants.{{{', '.join(arrays)}}}\n\n"
-        f"abbrev pub {stem}_tables : Tables\n{stem}_tables = record {{ {fields} }}\n"
-    )
-
-
-def mentions(grammar, word):
-    """Whether some act's term has a word or an operator of the Prelude."""
-    plain = word.replace("◌", "")
-    return any(plain in act.antt.replace("(", " ").replace(")", " ").split() for act in grammar.acts)
-
-
-def part(kind):
-    return "P" + kind
-
-
-def variants(grammar):
-    return ", ".join(f"{kind} as {part(kind)}" for kind in grammar.kinds)
-
-
-def kinds_taken(act):
-    return " ∷ ".join([kind_constant(kind) for _, kind in reversed(act.takes)] + ["[]"])
-
-
-def made(act):
-    return "made_" + act.name.lower()
-
-
-def acts_spec(grammar):
-    stem, title = grammar.language, grammar.language.title()
-    declared = f"Rattle.{grammar.crate}.specs.declared.{stem}_acts"
-    words = ["ℕ", "List", "[]", "◌∷◌"] + [word for word in ("◌++◌", "Some", "None") if mentions(grammar, word)]
-    out = f"-- What each act makes of the parts, the top one first. {made_from(grammar)}\n"
-    out += f"use Rattle.std.specs.Prelude.{{{', '.join(words)}}}\n"
-    out += "use Rattle.gv_grammar.specs.Building.{Reduction}\n"
-    out += f"use {declared}.Part.{{Part}}\nuse {declared}.Part.TheVariants.{{{variants(grammar)}}}\n"
-    out += f"use {declared}.TheConstants.{{{', '.join(kind_constant(kind) for kind in grammar.kinds)}}}\n"
-    out += "".join(line + "\n" for line in grammar.antt)
-    out += "\nabbrev pub kind_of : Part → ℕ\n"
-    out += "".join(f"kind_of ({part(kind)} of) = {kind_constant(kind)}\n" for kind in grammar.kinds)
-    for act in grammar.acts:
-        pattern = " ∷ ".join([f"{part(kind)} {name}" for name, kind in reversed(act.takes)] + ["parts"])
-        out += f"\nabbrev pub {made(act)} : List Part → List Part\n"
-        out += f"{made(act)} {f'({pattern})' if act.takes else pattern} = {part(act.kind)} ({act.antt}) ∷ parts\n"
-        if act.takes:
-            out += f"{made(act)} parts = parts\n"
-    out += "\n-- the acts, from the first number behind the marks on\nabbrev pub acts : List (Reduction Part)\nacts =\n"
-    for at, act in enumerate(grammar.acts):
-        out += f"    {'∷ ' if at else ''}record {{ takes = {kinds_taken(act)}; makes = {made(act)} }}\n"
-    return out + "    ∷ []\n"
-
-
-def acts_source(grammar):
-    stem, title = grammar.language, grammar.language.title()
-    out = f"//! The parts of the {stem} language, and what acts make of them. {made_from(grammar)}\n"
-    out += "ghost use Rattle.std.specs.Prelude.{◌≡◌, ◌≤◌, ◌∷◌, [], true, reverse, Some, IsSome, OnOk, IfOk};\n"
-    out += "ghost use Rattle.gv_grammar.specs.Building.{has_tops, accepts, made_by, act_of, run, is_whole};\n"
-    names = ["kind_of", "acts"] + [made(act) for act in grammar.acts]
-    out += f"ghost use Rattle.{grammar.crate}.specs.{title}Acts.{{{', '.join(names)}}};\n"
-    out += f"ghost use Rattle.{grammar.crate}.specs.declared.{stem}_acts.Part.TheVariants.{{{variants(grammar)}}};\n\n"
-    numbers = ["ACT_" + act.name for act in grammar.acts]
-    uses = grammar.rust + [wrapped_use(f"crate::{stem}_table", numbers), "use gv_grammar::{FIRST_ACT, Step};", "use std::alloc::{AllocError, Global};"]
-    out += "\n".join(sorted(uses, key=use_order)) + "\n\n"
-    out += "/// What a stretch of tokens was read as.\n#[derive(Drop)]\npub enum Part {\n"
-    out += "".join(f"    {kind}({rust}),\n" for kind, rust in grammar.kinds.items()) + "}\n\n"
-    out += constants([(kind_constant(kind), at) for at, kind in enumerate(grammar.kinds)], "u8")
-    taken = {kind for act in grammar.acts for _, kind in act.takes} | {grammar.whole}
-    out += "".join(pop_source(kind, rust) for kind, rust in grammar.kinds.items() if kind in taken)
-    out += "".join(make_source(act) for act in grammar.acts)
-    return out + dispatch_source(grammar) + build_source(grammar)
-
-
-def use_order(line):
-    return line.split("{")[0]
 
 
 def wrapped_use(path, names):
@@ -244,117 +214,94 @@ def wrapped_use(path, names):
     return f"use {path}::{{\n" + "\n".join(lines + [line]) + "\n};"
 
 
-def pop_source(kind, rust):
+def table_spec(grammar):
+    stem, title = grammar.language, grammar.language.title()
+    arrays = ["ROOTS", "NAMES", "SYMBOLS", "STARTS", "CLASSES", "SET_STARTS", "TABLE", "WIDTH"]
+    fields = "; ".join(f"{name.lower()} = {name}" for name in arrays)
     return (
-        f"fn pop_{upper(kind).lower()}(parts: &mut Vec<Part>) -> {rust}\n"
-        f"    requires {{ has_tops kind_of ({kind_constant(kind)} ∷ []) (reverse parts.old.items) ≡ true }}\n"
-        f"    ensures {{ reverse parts.old.items ≡ {part(kind)} result ∷ reverse parts.new.items }}\n"
-        "{\n    match parts.pop() {\n"
-        f"        Some(Part::{kind}(of)) => of,\n        _ => unreachable!(),\n    }}\n}}\n\n"
+        f"-- The {stem} grammar as lists. {made_from(grammar)}\n"
+        "use Rattle.gv_grammar.specs.Derivation.{Tables}\n"
+        f"use Rattle.{grammar.crate}.specs.declared.generated.{stem}_table.TheConstants.{{{', '.join(arrays)}}}\n\n"
+        f"abbrev pub {stem}_tables : Tables\n{stem}_tables = record {{ {fields} }}\n"
     )
 
 
-def needs_memory(act):
-    return "alloc" in act.rust
-
-
-def make_source(act):
-    alloc = "alloc: Global, " if needs_memory(act) else ""
-    out = f"fn make_{act.name.lower()}({alloc}parts: &mut Vec<Part>) -> Result<(), AllocError>\n"
-    if act.takes:
-        out += f"    requires {{ has_tops kind_of ({kinds_taken(act)}) (reverse parts.old.items) ≡ true }}\n"
-    out += f"    ensures {{ OnOk result ({made(act)} (reverse parts.old.items) ≡ reverse parts.new.items) }}\n{{\n"
-    for name, kind in reversed(act.takes):
-        out += f"    let {name} = pop_{upper(kind).lower()}(parts);\n"
-    out += f"    let made = {act.rust};\n    parts.push(Part::{act.kind}(made))?;\n    Ok(())\n}}\n\n"
+def fragment_spec(grammar):
+    """The rules, sets and acts that including grammars have in common."""
+    stem, title = grammar.language, grammar.language.title()
+    used = sorted({symbol(grammar, word)[1] for rule in grammar.rules for word in rule.words} - set(MARKS))
+    used += sorted({name_constant(name) for name in grammar.names} - set(used))
+    used += sorted({class_constant(c) for name, members in grammar.sets.items() if name not in grammar.open_sets for c in members})
+    marks = [mark for mark in MARKS if any("{" + mark + "}" in rule.words for rule in grammar.rules)]
+    acts = f"Rattle.{grammar.crate}.specs.{title}Acts.{{{stem}_acts}}"
+    params = "".join(f"{snake(name)} " for name in grammar.open_sets)
+    out = f"-- What grammars that include terms begin with: rules, sets and acts. {made_from(grammar)}\n".replace("terms", f"the {stem} grammar")
+    out += "use Rattle.std.specs.Prelude.{ℕ, List, [], ◌∷◌}\n"
+    out += "use Rattle.gv_grammar.specs.declared.symbols.Symbol.{Symbol}\n"
+    out += "use Rattle.gv_grammar.specs.declared.symbols.Symbol.TheVariants.{Token, Name, Act}\n"
+    out += f"use Rattle.gv_grammar.specs.declared.levels.TheConstants.{{{', '.join(marks)}}}\n"
+    out += "use Rattle.gv_grammar.specs.Fragment.{Fragment}\n"
+    out += f"use Rattle.{grammar.crate}.specs.declared.generated.{stem}_table.TheConstants.{{{', '.join(used)}}}\n"
+    out += f"use Rattle.{grammar.crate}.specs.declared.generated.{stem}_acts.Part.{{Part}}\nuse {acts}\n\n"
+    out += f"abbrev pub {stem}_rules : List (ℕ × List Symbol)\n{stem}_rules =\n"
+    for at, rule in enumerate(grammar.rules):
+        row = "".join(f"{symbol_term(grammar, word)} ∷ " for word in rule.words) + "[]"
+        out += f"    {'∷ ' if at else ''}({name_constant(rule.name)}, {row})\n"
+    out += "    ∷ []\n\n-- the sets, where these are all classes of those that may be larger\n"
+    types = "List ℕ → " * len(grammar.open_sets)
+    out += f"abbrev pub {stem}_sets : {types}List (List ℕ)\n{stem}_sets {params}=\n"
+    for at, (name, members) in enumerate(grammar.sets.items()):
+        row = snake(name) if name in grammar.open_sets else "(" + "".join(class_constant(c) + " ∷ " for c in members) + "[])"
+        out += f"    {'∷ ' if at else ''}{row}\n"
+    out += f"    ∷ []\n\nabbrev pub {stem}_fragment : {{O : Type 0}} → {context_type(grammar)}{types}Fragment (Part O)\n"
+    context = grammar.context_name() + " " if grammar.context else ""
+    given = f"({stem}_acts {context.strip()})" if context else f"{stem}_acts"
+    out += f"{stem}_fragment {context}{params}= record {{ rules = {stem}_rules; sets = {stem}_sets {params.strip()}; acts = {given} }}\n"
     return out
 
 
-def dispatch_source(grammar):
-    out = "/// Does an act on the parts, the last of them on top.\n"
-    out += "fn make(alloc: Global, act: u8, parts: &mut Vec<Part>) -> Result<(), AllocError>\n"
-    out += "    requires behind_marks { FIRST_ACT ≤ act }\n"
-    out += "    requires accepted { accepts kind_of acts act (reverse parts.old.items) ≡ true }\n"
-    out += "    ensures { OnOk result (made_by acts act (reverse parts.old.items) ≡ reverse parts.new.items) }\n{\n    match act {\n"
-    for act in grammar.acts:
-        words = "alloc, parts" if needs_memory(act) else "parts"
-        out += f"        ACT_{act.name} => make_{act.name.lower()}({words}),\n"
-    return out + "        _ => unreachable!(),\n    }\n}\n\n"
+def context_type(grammar):
+    return "List ℕ → " if grammar.context else ""
 
 
-def build_source(grammar):
-    return f"""/// The parts that the steps leave of the tokens.
-fn build_parts(
-    alloc: Global,
-    steps: &[Step],
-    tokens: &[{grammar.token}],
-) -> Result<Vec<Part>, AllocError>
-    requires {{ IsSome (run PToken (act_of kind_of acts) steps.now tokens.now []) }}
-    ensures {{ IfOk result (λ parts. run PToken (act_of kind_of acts) steps.now tokens.now [] ≡ Some (reverse parts.items)) }}
-{{
-    let mut parts = Vec::new(alloc);
-    let mut rest = tokens;
-    for step in steps {{
-        match step {{
-            Step::Take => {{
-                let Some((token, after)) = rest.split_first() else {{
-                    unreachable!()
-                }};
-                parts.push(Part::Token(*token))?;
-                rest = after;
-            }}
-            Step::Do(act) => {{
-                if *act >= FIRST_ACT {{
-                    make(alloc, *act, &mut parts)?;
-                }}
-            }}
-        }}
-    }}
-    Ok(parts)
-}}
-
-/// What the steps of a derivation of a whole text build of its tokens.
-pub fn build(
-    alloc: Global,
-    steps: &[Step],
-    tokens: &[{grammar.token}],
-) -> Result<{grammar.kinds[grammar.whole]}, AllocError>
-    requires {{ is_whole kind_of {kind_constant(grammar.whole)} (run PToken (act_of kind_of acts) steps.now tokens.now []) ≡ true }}
-    ensures {{ IfOk result (λ whole. run PToken (act_of kind_of acts) steps.now tokens.now [] ≡ Some ({part(grammar.whole)} whole ∷ [])) }}
-{{
-    let mut parts = build_parts(alloc, steps, tokens)?;
-    Ok(pop_{upper(grammar.whole).lower()}(&mut parts))
-}}
-"""
-
-
-def build_invariants(grammar):
+def contains_proof(grammar):
+    """That the tables begin with the fragment that they include, or that they are."""
     stem, title = grammar.language, grammar.language.title()
-    return f"""-- {made_from(grammar)}
-use Rattle.std.proofs.Common.{{◌≡◌, [], drop, reverse}}
-use Rattle.gv_grammar.specs.Building.{{act_of, run}}
-use Rattle.{grammar.crate}.specs.{title}Acts.{{kind_of, acts}}
-use Rattle.{grammar.crate}.specs.declared.{stem}_acts.Part.TheVariants.{{Token as PToken}}
-use Rattle.{grammar.crate}.proofs.{stem}_acts.build_parts.Given as goal
+    base = grammar.base or grammar
+    base_title = base.language.title()
+    table = f"Rattle.{{}}.specs.declared.generated.{{}}_table.TheConstants.{{{{{{}}}}}}"
+    sets = [grammar.sets[name] for name in base.open_sets]
+    members = {c for row in sets for c in row}
+    out = f"-- The {stem} tables begin with the {base.language} grammar's rules, sets and acts. {made_from(grammar)}\n"
+    out += "use Rattle.std.proofs.Common.{ℕ, List, [], ◌∷◌, refl}\n"
+    out += "use Rattle.gv_grammar.specs.Fragment.{Contains}\n"
+    for owner in [base, grammar] if grammar.base else [grammar]:
+        mine = sorted(class_constant(c) for c in members if c in owner.own("classes"))
+        if mine:
+            out += f"use {table.format(owner.crate, owner.language, ', '.join(mine))}\n"
+    out += f"use Rattle.{base.crate}.specs.{base_title}Fragment.{{{base.language}_fragment}}\n"
+    if grammar.base:
+        out += f"use Rattle.{grammar.crate}.specs.{title}Acts.{{{stem}_acts, {stem}_own_acts}}\n"
+        out += f"use Rattle.{base.crate}.specs.declared.generated.{base.language}_acts.Part.{{Part}}\n"
+        out += f"use Rattle.{grammar.crate}.specs.declared.generated.{stem}_acts.{title}Part.{{{title}Part}}\n"
+    else:
+        out += f"use Rattle.{grammar.crate}.specs.{title}Acts.{{{stem}_acts}}\n"
+        out += f"use Rattle.{grammar.crate}.specs.declared.generated.{stem}_acts.NoOther.{{NoOther}}\n"
+    out += f"use Rattle.{grammar.crate}.specs.{title}Table.{{{stem}_tables}}\n\n"
+    for name, row in zip(base.open_sets, sets):
+        out += f"abbrev pub {stem}_{snake(name)} : List ℕ\n{stem}_{snake(name)} = {''.join(class_constant(c) + ' ∷ ' for c in row)}[]\n\n"
+    own = f"{title}Part" if grammar.base else "NoOther"
+    context = grammar.context_name() if grammar.context else ""
+    given = "".join(f" {stem}_{snake(name)}" for name in base.open_sets)
+    binder = f"({context} : List ℕ) → " if context else ""
+    acts = f"({stem}_acts {context})" if context else f"{stem}_acts"
+    fragment = f"({base.language}_fragment {{O = {own}}}{' ' + context if context else ''}{given})"
+    out += f"pub {stem}_contains : {binder}Contains {stem}_tables {acts} {fragment}\n"
+    out += f"{stem}_contains {context + ' ' if context else ''}= record {{\n"
+    out += f"  rules = {nested('(refl, refl, ', len(base.rules))};\n  sets = {nested('(refl, ', len(base.sets))};\n"
+    more = (f"{stem}_own_acts {context}".strip() if grammar.base else "[]")
+    return out + f"  more = {more};\n  same = refl;\n}}\n"
 
--- the steps that are left make of the rest what all steps make of all tokens
-abbrev pub invariant-loop-step : goal.invariant-loop-step
-invariant-loop-step l =
-    run PToken (act_of kind_of acts) (drop l.step-index l.steps) l.rest (reverse l.parts.items) ≡ run PToken (act_of kind_of acts) l.steps l.fn.tokens []
-"""
 
-
-def make_answers(grammar):
-    stem, title = grammar.language, grammar.language.title()
-    return f"""-- {made_from(grammar)}
-use Rattle.std.proofs.Common.{{arith, reverse}}
-use Rattle.gv_grammar.proofs.Building.{{accepted_within}}
-use Rattle.{grammar.crate}.specs.{title}Acts.{{kind_of, acts}}
-use Rattle.{grammar.crate}.proofs.{stem}_acts.make.Goals as goal
-
-pub unreachable-requires : goal.unreachable-requires
-unreachable-requires c =
-    let within = accepted_within kind_of acts c.args.act (reverse c.args.parts.now.items) c.requires.accepted in
-    let behind = c.requires.behind_marks in
-    omega (arith, within, behind)
-"""
+def nested(one, times):
+    return one * times + "tt" + ")" * times

@@ -1,10 +1,12 @@
 """Reads grammar files."""
 
+import os
 import re
 from dataclasses import dataclass, field
 
 MARKS = ["OPEN", "SAVE", "RESTORE", "OPEN_BEFORE"]
 SECTIONS = ["classes", "sets", "kinds", "rust", "antt", "acts", "rules"]
+SETTINGS = ["language", "crate", "token", "roots", "fragment", "include", "context", "code"]
 LIMIT = 255
 
 
@@ -40,13 +42,20 @@ class Rule:
 
 @dataclass
 class GrammarFile:
+    """A grammar. What it includes stands first in its classes, sets, names and rules; acts and kinds are its own alone."""
+
     language: str = ""
     crate: str = ""
     token: str = ""
-    start: str = ""
-    whole: str = ""  # the kind of a whole tree
+    roots: str = ""  # names that texts are read as, each with the kind of its tree: `Block:Stmts Sum:Expr`
+    fragment: str = ""  # `yes` where other grammars may include this one
+    include: str = ""  # the path of an included grammar, from the folder of this file
+    context: str = ""  # what acts are given beside the parts: a variable and its Rust type
+    code: str = ""  # `no` where acts are definitions alone, for a grammar that only tells whether tokens are a text
+    base: object = None  # the included grammar
     classes: list = field(default_factory=list)
     sets: dict = field(default_factory=dict)
+    open_sets: list = field(default_factory=list)  # those that an including grammar may enlarge
     kinds: dict = field(default_factory=dict)
     rust: list = field(default_factory=list)
     antt: list = field(default_factory=list)
@@ -55,7 +64,21 @@ class GrammarFile:
     names: list = field(default_factory=list)
 
     def act_names(self):
-        return MARKS + [act.name for act in self.acts]
+        return (self.base.act_names() if self.base else MARKS) + [act.name for act in self.acts]
+
+    def all_kinds(self):
+        return {**(self.base.kinds if self.base else {}), **self.kinds}
+
+    def root_kinds(self):
+        """Each root with the kind of its tree."""
+        return dict(word.split(":") for word in self.roots.split())
+
+    def context_name(self):
+        return self.context.split(":")[0].strip()
+
+    def own(self, what):
+        """What of its classes, sets, names or rules the grammar doesn't include."""
+        return list(getattr(self, what))[len(getattr(self.base, what)) if self.base else 0 :]
 
     def set_names(self):
         return list(self.sets)
@@ -89,7 +112,7 @@ def read_grammar(path):
             if text in SECTIONS:
                 section = text
             elif not text.startswith(" "):
-                read_setting(grammar, text, number)
+                read_setting(grammar, text, number, path)
                 section = None
             elif section is None:
                 raise GrammarError([f"line {number}: stands in no section"])
@@ -99,11 +122,30 @@ def read_grammar(path):
     return grammar
 
 
-def read_setting(grammar, text, number):
+def read_setting(grammar, text, number, path):
     words = text.split(None, 1)
-    if len(words) != 2 or words[0] not in ("language", "crate", "token", "start", "whole"):
+    if len(words) != 2 or words[0] not in SETTINGS:
         raise GrammarError([f"line {number}: neither a section nor a setting: {text}"])
     setattr(grammar, words[0], words[1].strip())
+    if words[0] == "include":
+        include(grammar, os.path.join(os.path.dirname(path), grammar.include))
+
+
+def include(grammar, path):
+    """Begins a grammar with another one."""
+    if grammar.classes or grammar.sets or grammar.rules:
+        raise GrammarError([f"include {grammar.include}: stands before all sections"])
+    base = read_grammar(path)
+    if base.fragment != "yes":
+        raise GrammarError([f"include {grammar.include}: {base.language} is no fragment"])
+    if base.base:
+        raise GrammarError([f"include {grammar.include}: {base.language} includes another grammar"])
+    grammar.base = base
+    grammar.context = base.context
+    grammar.classes = list(base.classes)
+    grammar.sets = {name: list(members) for name, members in base.sets.items()}
+    grammar.names = list(base.names)
+    grammar.rules = list(base.rules)
 
 
 def read_line(grammar, section, text, number):
@@ -115,14 +157,30 @@ def read_line(grammar, section, text, number):
         name, sign, rest = body.partition("=")
         if not sign:
             raise GrammarError([f"line {number}: wants `name = ..`"])
-        value = rest.split() if section == "sets" else rest.strip()
-        getattr(grammar, section)[name.strip()] = value
+        if section == "kinds":
+            grammar.kinds[name.strip()] = rest.strip()
+        else:
+            read_set(grammar, name.strip(), rest.split(), number)
     elif section in ("rust", "antt"):
         getattr(grammar, section).append(body)
     elif section == "acts":
         read_act(grammar, body, deeper, number)
     else:
         read_rule(grammar, body, deeper, number)
+
+
+def read_set(grammar, name, members, number):
+    """`name = classes`, with `...` behind them where an including grammar may add more; `name += classes` adds them."""
+    if name.endswith("+"):
+        name = name[:-1].strip()
+        if not grammar.base or name not in grammar.base.open_sets:
+            raise GrammarError([f"line {number}: no included grammar lets {name} be enlarged"])
+        grammar.sets[name] += members
+        return
+    if members[-1:] == ["..."]:
+        members = members[:-1]
+        grammar.open_sets.append(name)
+    grammar.sets[name] = members
 
 
 def read_act(grammar, body, deeper, number):
@@ -154,48 +212,71 @@ def read_rule(grammar, body, deeper, number):
 
 def complete(grammar):
     """Sees that every word is known, and makes a set of each class that stands alone."""
-    faults = []
-    for setting in ("language", "crate", "token", "start", "whole"):
-        if not getattr(grammar, setting):
-            faults.append(f"{setting} is missing")
-    if grammar.start not in grammar.names:
-        faults.append(f"the start {grammar.start} has no rules")
+    faults = setting_faults(grammar)
+    if faults:
         raise GrammarError(faults)
-    grammar.names.remove(grammar.start)
-    grammar.names.insert(0, grammar.start)
-    grammar.kinds = {"Token": grammar.token, **grammar.kinds}
-    if grammar.whole not in grammar.kinds:
-        faults.append(f"the whole {grammar.whole} is no kind")
+    if not grammar.base:
+        grammar.kinds = {"Token": grammar.token, **grammar.kinds}
+    faults += root_faults(grammar)
     for name, members in grammar.sets.items():
         faults += [f"the set {name} has no class {m}" for m in members if m not in grammar.classes]
-    used = set()
+    used = set(grammar.root_kinds())
     for rule in grammar.rules:
         for word in rule.words:
             used.add(word.strip("{}"))
-            if word.startswith("{"):
-                if word[1:-1] not in grammar.act_names():
-                    faults.append(f"{rule.title()}: {word} is no act")
-            elif word not in grammar.names and word not in grammar.sets:
-                if word in grammar.classes:
-                    grammar.sets[word] = [word]
-                else:
-                    faults.append(f"{rule.title()}: {word} is no name, set or class")
+            faults += word_faults(grammar, rule, word)
         faults += late_faults(rule)
     for act in grammar.acts:
-        if act.name not in used:
-            faults.append(f"the act {act.name} stands in no rule")
-        for kind in [kind for _, kind in act.takes] + [act.kind]:
-            if kind not in grammar.kinds:
-                faults.append(f"the act {act.name}: {kind} is no kind")
-        if not act.antt or not act.rust:
-            faults.append(f"the act {act.name} wants the lines `antt ..` and `rust ..`")
+        faults += act_faults(grammar, act, used)
     faults += [f"the name {n} has no rule" for n in grammar.names if not any(r.name == n for r in grammar.rules)]
-    faults += [f"the name {n} stands in no rule" for n in grammar.names[1:] if n not in used]
-    for what, items in (("names", grammar.names), ("classes", grammar.classes), ("acts", grammar.acts), ("sets", grammar.sets)):
-        if len(items) + len(MARKS) > LIMIT:
-            faults.append(f"too many {what}")
+    faults += [f"the name {n} stands in no rule" for n in grammar.names if n not in used]
+    numbered = (("names", grammar.names), ("classes", grammar.classes), ("acts", grammar.act_names()), ("sets", grammar.sets))
+    faults += [f"too many {what}" for what, items in numbered if len(items) > LIMIT]
     if faults:
         raise GrammarError(faults)
+
+
+def setting_faults(grammar):
+    faults = [f"{setting} is missing" for setting in ("language", "crate", "token", "roots") if not getattr(grammar, setting)]
+    faults += [f"the root {word} wants its kind, as `Name:Kind`" for word in grammar.roots.split() if word.count(":") != 1]
+    if grammar.base and grammar.token != grammar.base.token:
+        faults.append(f"the tokens of {grammar.base.language} are {grammar.base.token}")
+    return faults
+
+
+def root_faults(grammar):
+    faults = []
+    for root, kind in grammar.root_kinds().items():
+        if root not in grammar.names:
+            faults.append(f"the root {root} has no rules")
+        if kind not in grammar.all_kinds():
+            faults.append(f"the root {root}: {kind} is no kind")
+    return faults
+
+
+def word_faults(grammar, rule, word):
+    if word.startswith("{"):
+        return [] if word[1:-1] in grammar.act_names() else [f"{rule.title()}: {word} is no act"]
+    if word in grammar.names or word in grammar.sets:
+        return []
+    if word in grammar.classes:
+        grammar.sets[word] = [word]
+        return []
+    return [f"{rule.title()}: {word} is no name, set or class"]
+
+
+def act_faults(grammar, act, used):
+    faults = []
+    if act.name not in used:
+        faults.append(f"the act {act.name} stands in no rule")
+    for kind in [kind for _, kind in act.takes] + [act.kind]:
+        if kind not in grammar.all_kinds():
+            faults.append(f"the act {act.name}: {kind} is no kind")
+    if not act.antt:
+        faults.append(f"the act {act.name} wants the line `antt ..`")
+    if bool(act.rust) == (grammar.code == "no"):
+        faults.append(f"the act {act.name} {'has no code to have' if act.rust else 'wants'} the line `rust ..`")
+    return faults
 
 
 def late_faults(rule):

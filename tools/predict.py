@@ -20,7 +20,8 @@ def solve(grammar):
     report_recursion(grammar, rows)
     empty = empties(len(grammar.names), rows)
     first = firsts(len(grammar.names), rows, members, empty)
-    follow = follows(len(grammar.names), rows, members, empty, first)
+    roots = [grammar.names.index(root) for root in grammar.root_kinds()]
+    follow = follows(len(grammar.names), roots, rows, members, empty, first)
     return Solved(empty, first, follow, table_of(grammar, rows, members, empty, first, follow))
 
 
@@ -65,9 +66,10 @@ def firsts(count, rows, members, empty):
     return first
 
 
-def follows(count, rows, members, empty, first):
+def follows(count, roots, rows, members, empty, first):
     follow = [set() for _ in range(count)]
-    follow[0].add(0)
+    for root in roots:
+        follow[root].add(0)
     grown = True
     while grown:
         grown = False

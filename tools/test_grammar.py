@@ -14,8 +14,7 @@ from grammar_file import GrammarError, read_grammar
 HEAD = """language tiny
 crate tiny
 token Token
-start Top
-whole Tree
+roots Top:Tree
 
 classes
     Id Plus Open Close
@@ -73,6 +72,86 @@ class Reports(unittest.TestCase):
                     self.assertEqual(said, [])
                 else:
                     self.assertIn(wanted, said)
+
+
+FRAGMENT = """language part
+crate part
+token Token
+roots Item:Tree
+fragment yes
+
+classes
+    Id Plus
+
+sets
+    Word = Id ...
+    Sign = Plus
+
+kinds
+    Tree = Tree
+
+acts
+    LEAF _:Token -> Tree
+        antt Leaf
+        rust Tree::Leaf
+    SIGN _:Token -> Tree
+        antt Leaf
+        rust Tree::Leaf
+
+rules
+    Item
+        word = Word {LEAF}
+        sign = Sign {SIGN}
+"""
+
+WHOLE = """language whole
+crate whole
+token Token
+include part.grammar
+roots Top:Tree Item:Tree
+
+classes
+    Key Close
+
+sets
+    SETS
+
+rules
+    Top
+        item = Key Item Close
+"""
+
+
+def including(sets, fragment=FRAGMENT):
+    """The grammar that includes the fragment, or what is said of it."""
+    with tempfile.TemporaryDirectory() as folder:
+        for name, text in (("part.grammar", fragment), ("whole.grammar", WHOLE.replace("SETS", sets))):
+            with open(os.path.join(folder, name), "w", encoding="utf-8") as file:
+                file.write(text)
+        try:
+            grammar = read_grammar(os.path.join(folder, "whole.grammar"))
+            return grammar, predict.solve(grammar)
+        except GrammarError as error:
+            return error.lines, None
+
+
+class Including(unittest.TestCase):
+    def test_fragment_stands_first(self):
+        grammar, solved = including("Word += Key")
+        self.assertEqual(grammar.classes, ["Id", "Plus", "Key", "Close"])
+        self.assertEqual(grammar.sets["Word"], ["Id", "Key"])
+        self.assertEqual(grammar.names, ["Item", "Top"])
+        self.assertEqual(grammar.act_names()[4:], ["LEAF", "SIGN"])
+        self.assertEqual(grammar.own("classes"), ["Key", "Close"])
+        # the end stands behind each root, and `Close` behind an item as well
+        self.assertEqual(solved.follow, [{0, 4}, {0}])
+
+    def test_only_open_sets_are_enlarged(self):
+        self.assertEqual(including("Sign += Key")[0], ["line 11: no included grammar lets Sign be enlarged"])
+
+    def test_only_fragments_are_included(self):
+        said = including("Word += Key", FRAGMENT.replace("fragment yes\n", ""))[0]
+        self.assertEqual(said, ["include part.grammar: part is no fragment"])
 
 
 if __name__ == "__main__":
