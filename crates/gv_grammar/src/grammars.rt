@@ -48,7 +48,8 @@ pub(crate) fn has(grammar: &Grammar, set: u8, class: u8) -> bool
 /// The rule for a name before a class.
 pub(crate) fn rule_for(grammar: &Grammar, name: u8, class: u8) -> Option<u16>
     ensures some { IfSome result (λ rule. (slice_get grammar.now.names.now rule ≡ Some name) × (entry (tables_of grammar.now) name class ≡ rule + 1)) }
-    ensures none { IfNone result ((rule : ℕ) → slice_get grammar.now.names.now rule ≡ Some name → entry (tables_of grammar.now) name class ≡ rule + 1 → ⊥) }
+    ensures none { IfNone result
+        ((rule : ℕ) → slice_get grammar.now.names.now rule ≡ Some name → entry (tables_of grammar.now) name class ≡ rule + 1 → ⊥) }
 {
     let at = name as usize * grammar.width as usize + class as usize;
     let entry = grammar.table.get(at).copied().unwrap_or(0);

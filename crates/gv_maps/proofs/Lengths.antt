@@ -3,8 +3,8 @@ use Rattle.std.proofs.Common.{◌≡◌, ℕ, suc, ◌+◌, ◌-◌, List, ◌�
 use Rattle.std.proofs.lemmas.List.{length-take, length-drop, length-append, length-set}
 use Rattle.gv_words.specs.Maps.{with_entry, without}
 use Rattle.gv_world.specs.FiniteMaps.{changed}
-use Rattle.gv_maps.specs.Entries.{HoldsAt, FitsAt}
-use Rattle.gv_maps.proofs.Placed.{with_new, with_old, without_new, without_old}
+use Rattle.gv_words.specs.Entries.{HoldsAt, FitsAt}
+use Rattle.gv_words.proofs.Placed.{with_new, with_old, without_new, without_old}
 
 module _ {V : Type 0} where
   pub length_new : (m : List (ℕ × V)) (k : ℕ) (v : V) (i : ℕ) → FitsAt m k i → length (with_entry m k v) ≡ length m + 1

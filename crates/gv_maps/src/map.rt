@@ -3,9 +3,9 @@
 ghost use Rattle.std.specs.Prelude.{◌≡◌, ◌^◌, ◌<◌, ◌≤◌, [], true, length, IfOk, IfErr, OnOk, OnErr};
 ghost use Rattle.gv_words.specs.Maps.{ascends, entry_at, with_entry, without};
 ghost use Rattle.gv_world.specs.FiniteMaps.{changed};
-ghost use Rattle.gv_maps.specs.Entries.{FitsAt, HoldsAt};
 
 use gv_base::NoMemory;
+use gv_words::find;
 use std::alloc::Global;
 use std::marker::Model;
 
@@ -97,27 +97,4 @@ impl WordMap {
             Err(_) => {}
         }
     }
-}
-
-// The place of the entry with a key, or where one with it would fit in.
-fn find(entries: &[(u64, u64)], key: u64) -> Result<usize, usize>
-    requires { ascends entries.now ≡ true }
-    ensures found { IfOk result (λ i. HoldsAt entries.now key i) }
-    ensures absent { IfErr result (λ i. FitsAt entries.now key i) }
-{
-    let mut low = 0;
-    let mut high = entries.len();
-    while low < high {
-        let middle = low + (high - low) / 2;
-        let here = entries[middle].0;
-        if here == key {
-            return Ok(middle);
-        }
-        if here < key {
-            low = middle + 1;
-        } else {
-            high = middle;
-        }
-    }
-    Err(low)
 }

@@ -20,7 +20,7 @@ pub record Machine (W T R V : Type 0) : Type 0 where
   -- one step of a thread, with so much extra room for the slice that it makes larger, if it makes one
   pub stepped : ℕ → T → W → Answer (Stepped W T R)
   -- the thread of a call on the receiver that recovery returned, and the world with fresh buffers
-  -- for its arguments; none where there is no such operation or it doesn't take such arguments
+  -- for its arguments; none where the machine has no such call
   pub called : R → ℕ → List V → W → Option (W × T)
   -- the reply of a call whose first frame returned this, read in this world
   pub reply : R → W → Result V Reason

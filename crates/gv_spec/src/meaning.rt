@@ -77,7 +77,8 @@ pub fn apply(
     ensures reply { IfOk result (λ o. IfSome o (λ r. r.1 ≡ reply_of spec.now op args.now choices.now s.now.values)) }
     ensures atomic { IfOk result (λ o. (atomic_of spec.now).applied op args.now choices.now s.now.values ≡ option_map (λ r. (r.0.values, r.1)) o) }
     ensures each { IfOk result (λ o. IfSome o (λ r. EachOfOp spec.now op args.now choices.now s.now.values r.0.values)) }
-    ensures sorts { IsTrue (are_of (field_vars spec.now) s.now.values) → IfOk result (λ o. IfSome o (λ r. IsTrue (are_of (field_vars spec.now) r.0.values))) }
+    ensures sorts { IsTrue (are_of (field_vars spec.now) s.now.values)
+        → IfOk result (λ o. IfSome o (λ r. IsTrue (are_of (field_vars spec.now) r.0.values))) }
     ensures reply_sort { IfOk result (λ o. IfSome o (λ r. sort_of_value r.1 ≡ reply_sort spec.now op)) }
 {
     let operation = operation(spec, op);

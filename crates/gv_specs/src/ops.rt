@@ -105,7 +105,8 @@ pub fn read_ops(
     ensures noted { OnOk result (Adds
         (HasItemFault (λ i o. HasOpFault text.now (entry_in table.now) vars.old (with_ops text.now [] (take i trees.now)) o) trees.now)
         first.old first.new) }
-    ensures read { IfOk result (λ ops. first.new ≡ None → AreEach (λ i t o. IsOp text.now store.new (entry_in table.now) vars.old t o) trees.now ops.items) }
+    ensures read { IfOk result (λ ops. first.new ≡ None
+        → AreEach (λ i t o. IsOp text.now store.new (entry_in table.now) vars.old t o) trees.now ops.items) }
     ensures scope { OnOk result (vars.new ≡ vars.old) }
     ensures grows { Grows store.old store.new }
 {

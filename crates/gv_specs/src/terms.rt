@@ -20,7 +20,9 @@ use std::alloc::Global;
 pub const NOTHING: u32 = 0;
 
 /// The term that stands for such a part.
-pub fn nothing() -> Term {
+pub fn nothing() -> Term
+    ensures { result.id ≡ 0 }
+{
     Term {
         id: u64::from(NOTHING),
     }

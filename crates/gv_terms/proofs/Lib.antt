@@ -10,7 +10,6 @@ pub mod NodeSorts
 pub mod Places
 pub mod Trees
 pub mod SameTerms
-pub mod Placed
 pub mod Planned
 pub mod Living
 pub mod Arity
@@ -20,7 +19,6 @@ pub mod ScopeLookups
 pub mod RawTrees
 pub mod RawFaults
 pub mod RawParts
-pub mod Ascending
 pub mod MapLaws
 pub mod ValueSorts
 pub mod ValueRanges

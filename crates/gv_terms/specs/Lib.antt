@@ -5,7 +5,6 @@ pub mod Trees
 pub mod Ranges
 pub mod Store
 pub mod Evaluation
-pub mod Entries
 pub mod Scopes
 pub mod Resolving
 pub mod Places

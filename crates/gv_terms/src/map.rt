@@ -2,12 +2,12 @@
 
 ghost use Rattle.std.specs.Prelude.{◌≡◌, ◌↔◌, ◌<◌, [], true, length, slice_set, IfOk, IfErr, IsTrue};
 ghost use Rattle.std.specs.Option.{option_copied};
-ghost use Rattle.gv_terms.specs.Entries.{FitsAt, HoldsAt};
 ghost use Rattle.gv_words.specs.Maps.{ascends, entry_at, with_entry, without};
 
 use crate::item::Item;
 use crate::items;
 use gv_base::NoMemory;
+use gv_words::find;
 use std::alloc::Global;
 use std::marker::Model;
 
@@ -117,27 +117,4 @@ fn replaced<V: Item>(entries: Vec<(u64, V)>, place: usize, entry: (u64, V)) -> V
     let mut entries = entries;
     entries[place] = entry;
     entries
-}
-
-// The place of the entry with a key, or where one with it would fit in.
-fn find<V>(entries: &[(u64, V)], key: u64) -> Result<usize, usize>
-    requires { ascends entries.now ≡ true }
-    ensures found { IfOk result (λ i. HoldsAt entries.now key i) }
-    ensures absent { IfErr result (λ i. FitsAt entries.now key i) }
-{
-    let mut low = 0;
-    let mut high = entries.len();
-    while low < high {
-        let middle = low + (high - low) / 2;
-        let here = entries[middle].0;
-        if here == key {
-            return Ok(middle);
-        }
-        if here < key {
-            low = middle + 1;
-        } else {
-            high = middle;
-        }
-    }
-    Err(low)
 }

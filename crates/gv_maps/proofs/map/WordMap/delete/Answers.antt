@@ -1,8 +1,8 @@
 use Rattle.std.proofs.Common.{◌≡◌, true, sym, ap, ◌∙◌, subst}
-use Rattle.gv_maps.specs.Entries.{FitsAt, HoldsAt}
+use Rattle.gv_words.specs.Entries.{FitsAt, HoldsAt}
 use Rattle.gv_words.specs.Maps.{ascends, without}
-use Rattle.gv_maps.proofs.Ascending.{without_ascends}
-use Rattle.gv_maps.proofs.Placed.{without_new, without_old}
+use Rattle.gv_words.proofs.Ascending.{without_ascends}
+use Rattle.gv_words.proofs.Placed.{without_new, without_old}
 use Rattle.gv_maps.proofs.map.WordMap.delete.Goals as goal
 
 pub returns-in-Ok : goal.returns-in-Ok

@@ -1,7 +1,7 @@
 use Rattle.std.proofs.Common.{Some, sym, ap, ◌∙◌, subst}
-use Rattle.gv_maps.specs.Entries.{FitsAt, HoldsAt}
+use Rattle.gv_words.specs.Entries.{FitsAt, HoldsAt}
 use Rattle.gv_words.specs.Maps.{entry_at}
-use Rattle.gv_maps.proofs.Placed.{entry_new, entry_old}
+use Rattle.gv_words.proofs.Placed.{entry_new, entry_old}
 use Rattle.gv_maps.proofs.map.WordMap.get.Goals as goal
 
 pub returns-in-Ok : goal.returns-in-Ok

@@ -1,8 +1,8 @@
 use Rattle.std.proofs.Common.{◌≡◌, true, sym, ap, ◌∙◌, subst}
-use Rattle.gv_maps.specs.Entries.{FitsAt, HoldsAt}
+use Rattle.gv_words.specs.Entries.{FitsAt, HoldsAt}
 use Rattle.gv_words.specs.Maps.{ascends, with_entry}
-use Rattle.gv_maps.proofs.Ascending.{with_ascends}
-use Rattle.gv_maps.proofs.Placed.{with_new, with_old}
+use Rattle.gv_words.proofs.Ascending.{with_ascends}
+use Rattle.gv_words.proofs.Placed.{with_new, with_old}
 use Rattle.gv_maps.proofs.map.WordMap.put.Goals as goal
 
 pub returns-in-Ok-clause-ok : goal.returns-in-Ok-clause-ok

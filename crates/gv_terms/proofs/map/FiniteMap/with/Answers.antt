@@ -1,8 +1,8 @@
 use Rattle.std.proofs.Common.{◌≡◌, true, sym, ap, ◌∙◌, subst}
-use Rattle.gv_terms.specs.Entries.{FitsAt, HoldsAt}
+use Rattle.gv_words.specs.Entries.{FitsAt, HoldsAt}
 use Rattle.gv_words.specs.Maps.{ascends, with_entry}
-use Rattle.gv_terms.proofs.Ascending.{with_ascends}
-use Rattle.gv_terms.proofs.Placed.{with_new, with_old}
+use Rattle.gv_words.proofs.Ascending.{with_ascends}
+use Rattle.gv_words.proofs.Placed.{with_new, with_old}
 use Rattle.gv_terms.proofs.map.FiniteMap.with.Goals as goal
 
 pub returns-in-Ok : goal.returns-in-Ok

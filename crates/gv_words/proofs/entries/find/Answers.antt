@@ -1,6 +1,6 @@
 use Rattle.std.proofs.Common.{◌+◌, ◌-◌, ◌/◌, ◌<◌, length, arith}
-use Rattle.gv_terms.proofs.Placed.{holds_here, low_more, high_other}
-use Rattle.gv_terms.proofs.map.find.Goals as goal
+use Rattle.gv_words.proofs.Placed.{holds_here, low_more, high_other}
+use Rattle.gv_words.proofs.entries.find.Goals as goal
 
 pub returns-then-here-key-clause-found : goal.returns-then-here-key-clause-found
 returns-then-here-key-clause-found g c =

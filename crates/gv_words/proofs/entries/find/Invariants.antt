@@ -1,9 +1,9 @@
 use Rattle.std.proofs.Common.{◌<◌, ◌≤◌, ◌-◌, length, take, drop}
 use Rattle.std.specs.List.{All}
-use Rattle.gv_maps.proofs.map.find.Given as goal
+use Rattle.gv_words.proofs.entries.find.Given as goal
 
 abbrev pub invariant-loop-low : goal.invariant-loop-low
-invariant-loop-low l = record {
+invariant-loop-low g l = record {
   ordered : l.low ≤ l.high;
   within : l.high ≤ length l.entries;
   below : All (λ e. e.0 < l.key) (take l.low l.entries);
@@ -11,4 +11,4 @@ invariant-loop-low l = record {
 }
 
 abbrev pub decreases-loop-low : goal.decreases-loop-low
-decreases-loop-low l = l.high - l.low
+decreases-loop-low g l = l.high - l.low

@@ -6,7 +6,7 @@ use Rattle.std.proofs.lemmas.List.{take-append-drop, take-set, drop-set, take_mo
 use Rattle.std.proofs.Math.Seq.{drop-cons}
 use Rattle.std.proofs.lemmas.List.Elements.{All-nil, All-cons, All-tail, All-push, filter-append}
 use Rattle.gv_words.specs.Maps.{ascends, entry_at, with_entry, without}
-use Rattle.gv_terms.specs.Entries.{HoldsAt, FitsAt}
+use Rattle.gv_words.specs.Entries.{HoldsAt, FitsAt}
 
 left : (a b : Bool) → (a && b) ≡ true → a ≡ true
 left true b e = refl
