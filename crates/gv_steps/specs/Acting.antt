@@ -35,6 +35,12 @@ Acts a old before Blocked new after =
 Acts a old before (Undefined reason) new after =
     ((g : Program) (extra : ℕ) → step_of g extra old before a ≡ Undefined reason) × (new ≡ old) × (after ≡ before)
 
+-- the same in one program and with one extra room
+abbrev pub ActsIn : Program → ℕ → Action → Thread → World → Answer (Unit {0}) → Thread → World → Type 0
+ActsIn g extra a old before (Next done) new after = step_of g extra old before a ≡ Next (GoesOn after new [])
+ActsIn g extra a old before Blocked new after = (step_of g extra old before a ≡ Blocked) × (new ≡ old) × (after ≡ before)
+ActsIn g extra a old before (Undefined reason) new after = (step_of g extra old before a ≡ Undefined reason) × (new ≡ old) × (after ≡ before)
+
 -- an action's step is a step of each thread whose next command it is
 pub record StepsAct : Type 0 where
   pub steps : (g : Program) (extra : ℕ) (th : Thread) (w : World) (a : Action) (place : Place)

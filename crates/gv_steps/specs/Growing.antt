@@ -8,7 +8,7 @@ use Rattle.gv_lang.specs.Threads.{Thread}
 use Rattle.gv_lang.specs.Table.{Effect, Goes, acted}
 use Rattle.gv_store.specs.declared.grow.Grow.{Grow}
 use Rattle.gv_store.specs.declared.grow.Grow.TheVariants as grow
-use Rattle.gv_steps.specs.Acting.{Acts}
+use Rattle.gv_steps.specs.Acting.{Acts, ActsIn}
 
 -- whether a command, once it is done, leaves more live cells than there may be; the first of two steps makes none
 abbrev pub is_over : Answer Effect → Bool
@@ -27,3 +27,12 @@ ActsWithin a old before (Ok answer) new after =
 ActsWithin a old before (Err grow.TooMany) new after =
     ((g : Program) (extra : ℕ) → is_over (row_of g extra old before a) ≡ true) × (new ≡ old) × (after ≡ before)
 ActsWithin a old before (Err grow.NoMemory) new after = (new ≡ old) × (after ≡ before)
+
+-- the same in one program and with one extra room
+abbrev pub ActsWithinIn : Program → ℕ → Action → Thread → World → Result (Answer (Unit {0})) Grow → Thread → World → Type 0
+ActsWithinIn g extra a old before (Ok answer) new after =
+    ActsIn g extra a old before answer new after
+    × (is_within_limit before ≡ true → is_over (row_of g extra old before a) ≡ false)
+ActsWithinIn g extra a old before (Err grow.TooMany) new after =
+    (is_over (row_of g extra old before a) ≡ true) × (new ≡ old) × (after ≡ before)
+ActsWithinIn g extra a old before (Err grow.NoMemory) new after = (new ≡ old) × (after ≡ before)
