@@ -1,0 +1,10 @@
+pub mod Bounding
+pub mod EndingLemmas
+pub mod Events
+pub mod Going
+pub mod Keeping
+pub mod Placed
+pub mod Pops
+pub mod Slots
+pub mod Stepping
+pub mod ThreadsLemmas
