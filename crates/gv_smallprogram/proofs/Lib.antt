@@ -1,0 +1,10 @@
+pub mod AtOnce
+pub mod Calls
+pub mod Examples
+pub mod Names
+pub mod ProgramLemmas
+pub mod Replies
+pub mod Runs
+pub mod Shaped
+pub mod Sound
+pub mod Sums
