@@ -1,6 +1,7 @@
 """Prints the generated files of a grammar: its tables, and what its acts are made from (emit_acts)."""
 
-from emit_acts import acts_source, acts_spec, build_invariants, make_answers, parts_source
+from emit_acts import acts_source, acts_spec, build_invariants, make_answers
+from emit_nodes import parts_source, parts_spec
 from grammar_file import MARKS, upper
 
 WIDTH = 100
@@ -13,13 +14,13 @@ def files(grammar, solved):
     folder = f"proofs/generated/{stem}_acts"
     out = {
         f"src/generated/{stem}_table.rt": table_source(grammar, solved),
-        f"src/generated/{stem}_acts.rt": parts_source(grammar) if grammar.code == "no" else acts_source(grammar),
+        f"src/generated/{stem}_acts.rt": parts_source(grammar) if grammar.code == "nodes" else acts_source(grammar),
         f"specs/{title}Table.antt": table_spec(grammar),
-        f"specs/{title}Acts.antt": acts_spec(grammar),
+        f"specs/{title}Acts.antt": parts_spec(grammar) if grammar.code == "nodes" else acts_spec(grammar),
         f"proofs/{title}Predictive.antt": predictive_proof(grammar),
         f"proofs/generated/{stem}_table/{stem}_grammar/Answers.antt": grammar_answers(grammar),
     }
-    if grammar.code != "no":
+    if grammar.code != "nodes":
         out[f"{folder}/build_parts/Invariants.antt"] = build_invariants(grammar)
         out[f"{folder}/make/Answers.antt"] = make_answers(grammar)
     if grammar.fragment:

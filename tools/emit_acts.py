@@ -1,4 +1,6 @@
-"""Prints the generated files on the acts of a grammar: the parts, what each act makes of them, and the building."""
+"""Prints the generated files on the acts of a grammar: the parts, what each act makes of them, and the building.
+
+emit_nodes does it for a grammar whose trees are lists of nodes."""
 
 from grammar_file import upper
 
@@ -184,12 +186,6 @@ def acts_source(grammar):
     out += "".join(pop_source(grammar, kind, rust) for kind, rust in own_kinds(grammar).items() if taken(grammar, kind))
     out += "".join(make_source(grammar, act) for act in grammar.acts)
     return out + dispatch_source(grammar) + build_source(grammar)
-
-
-def parts_source(grammar):
-    """The parts alone, of a grammar whose acts are definitions without code."""
-    out = f"//! The parts of the {grammar.language} language. {made_from(grammar)}\n\n"
-    return out + "\n".join(sorted(grammar.rust)) + "\n\n" + part_enum(grammar)
 
 
 def code_imports(grammar, declared):

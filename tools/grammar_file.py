@@ -51,12 +51,13 @@ class GrammarFile:
     fragment: str = ""  # `yes` where other grammars may include this one
     include: str = ""  # the path of an included grammar, from the folder of this file
     context: str = ""  # what acts are given beside the parts: a variable and its Rust type
-    code: str = ""  # `no` where acts are definitions alone, for a grammar that only tells whether tokens are a text
+    code: str = ""  # `nodes` where a tree is a list of nodes, and acts are definitions alone: what such a list is the tree of
     base: object = None  # the included grammar
     classes: list = field(default_factory=list)
     sets: dict = field(default_factory=dict)
     open_sets: list = field(default_factory=list)  # those that an including grammar may enlarge
     kinds: dict = field(default_factory=dict)
+    others: dict = field(default_factory=dict)  # with `code nodes`, by kind a value that stands where no parts fit
     rust: list = field(default_factory=list)
     antt: list = field(default_factory=list)
     acts: list = field(default_factory=list)
@@ -158,7 +159,7 @@ def read_line(grammar, section, text, number):
         if not sign:
             raise GrammarError([f"line {number}: wants `name = ..`"])
         if section == "kinds":
-            grammar.kinds[name.strip()] = rest.strip()
+            read_kind(grammar, name.strip(), rest)
         else:
             read_set(grammar, name.strip(), rest.split(), number)
     elif section in ("rust", "antt"):
@@ -167,6 +168,18 @@ def read_line(grammar, section, text, number):
         read_act(grammar, body, deeper, number)
     else:
         read_rule(grammar, body, deeper, number)
+
+
+def read_kind(grammar, name, rest):
+    """`Kind = RustType`, with `| value` behind it where the parts of an act may be none that it takes."""
+    rust, _, other = rest.partition("|")
+    grammar.kinds[name] = rust.strip()
+    grammar.others[name] = other.strip() or value_of(rust.strip())
+
+
+def value_of(rust):
+    """The empty list, or no value; none for other types."""
+    return "[]" if rust.startswith("List<") else "None" if rust.startswith("Option<") else ""
 
 
 def read_set(grammar, name, members, number):
@@ -274,8 +287,10 @@ def act_faults(grammar, act, used):
             faults.append(f"the act {act.name}: {kind} is no kind")
     if not act.antt:
         faults.append(f"the act {act.name} wants the line `antt ..`")
-    if bool(act.rust) == (grammar.code == "no"):
+    if bool(act.rust) == (grammar.code == "nodes"):
         faults.append(f"the act {act.name} {'has no code to have' if act.rust else 'wants'} the line `rust ..`")
+    if grammar.code == "nodes" and not grammar.others.get(act.kind):
+        faults.append(f"the kind {act.kind} wants a value, as `{act.kind} = {grammar.kinds.get(act.kind)} | value`")
     return faults
 
 

@@ -9,6 +9,7 @@ import unittest
 sys.path.insert(0, os.path.dirname(os.path.abspath(__file__)))
 
 import predict
+from emit_nodes import antt_type, parts_source, parts_spec
 from grammar_file import GrammarError, read_grammar
 
 HEAD = """language tiny
@@ -152,6 +153,35 @@ class Including(unittest.TestCase):
     def test_only_fragments_are_included(self):
         said = including("Word += Key", FRAGMENT.replace("fragment yes\n", ""))[0]
         self.assertEqual(said, ["include part.grammar: part is no fragment"])
+
+
+class Nodes(unittest.TestCase):
+    NODES = HEAD.replace("roots Top:Tree", "roots Top:Tree\ncode nodes").replace("        rust Tree::Leaf\n", "").replace("antt Leaf", "antt leaf token")
+    NODES = NODES.replace("LEAF _:Token", "LEAF token:Token")
+
+    def of(self, kind):
+        with tempfile.NamedTemporaryFile("w", suffix=".grammar", delete=False) as file:
+            file.write(self.NODES.replace("Tree = Tree", kind) + "    Top\n        leaf = Id {LEAF}\n")
+        try:
+            return read_grammar(file.name)
+        except GrammarError as error:
+            return error.lines
+        finally:
+            os.unlink(file.name)
+
+    def test_a_kind_wants_a_value(self):
+        self.assertEqual(self.of("Tree = Tree"), ["the kind Tree wants a value, as `Tree = Tree | value`"])
+        self.assertEqual(self.of("Tree = List<Leaf>").others["Tree"], "[]")
+
+    def test_an_act_makes_one_part(self):
+        grammar = self.of("Tree = Tree | nothing")
+        self.assertIn("made_leaf (PToken token ∷ parts) = leaf token\nmade_leaf parts = nothing\n", parts_spec(grammar))
+        self.assertIn("record { takes = is_token ∷ []; makes = λ parts. PTree (made_leaf parts) }", parts_spec(grammar))
+        self.assertIn("pub static TAKEN: [u8; 5] = [0, 0, 0, 0, 1];", parts_source(grammar))
+
+    def test_types_of_definitions(self):
+        self.assertEqual(antt_type("List<List<Lexeme>>"), "List (List Lexeme)")
+        self.assertEqual(antt_type("Option<Boxed<Expr>>"), "Option Expr")
 
 
 if __name__ == "__main__":

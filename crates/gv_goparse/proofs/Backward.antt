@@ -11,7 +11,7 @@ use Rattle.gv_gosyntax.specs.declared.generated.gosyntax_table.TheConstants.{NAM
 use Rattle.gv_gosyntax.specs.declared.lexeme.Lexeme.{Lexeme}
 use Rattle.gv_gosyntax.specs.declared.tree.File.{File}
 use Rattle.gv_gosyntax.specs.GosyntaxTable.{gosyntax_tables}
-use Rattle.gv_goparse.specs.Language.{IsFile, go}
+use Rattle.gv_goparse.specs.Language.{IsFile}
 use Rattle.gv_goparse.proofs.Meanings.{M}
 use Rattle.gv_goparse.proofs.SimpleRules.{simple_name, simple_closed, simple_name_more, simple_member_more, simple_index_more, simple_tail_member, simple_tail_bracket, simple_bracket_slice, simple_bracket_index, simple_closing_index, simple_closing_slice, simple_index_assign, simple_name_count, simple_name_update, simple_member_call, simple_assign_one, simple_assign_two, simple_builtin, simple_literal, post_name, post_closed, post_name_more, post_member_more, post_index_more, post_tail_member, post_tail_bracket, post_bracket_slice, post_bracket_index, post_closing_index, post_closing_slice, post_index_assign, post_name_count, post_name_update, post_member_call, post_assign_one, post_assign_two, post_builtin, header_name, header_closed, first_name_more, first_member_more, first_index_more, first_tail_member, first_tail_bracket, first_bracket_slice, first_bracket_index, first_closing_index, first_closing_slice, first_index_assign, first_name_count, first_name_update, first_member_call, first_assign_one, first_assign_two, header_builtin, left_name, left_closed, left_end_more, left_end_end, left_tail_member, left_tail_bracket, left_bracket_slice, left_bracket_index, left_closing_index, left_closing_slice, right_literal, right_plain, plain_right_sign, plain_right_builtin, plain_right_name, plain_right_closed, right_member_call, right_member_more, right_tail_member, right_tail_bracket, right_tail_value, returned_none, returned_literal, returned_builtin, returned_sign, returned_name, returned_closed, returned_member_call, returned_member_more, returned_tail_member, returned_tail_bracket, returned_tail_value, more_returned_more, more_returned_end, header_forever, header_clauses, header_sign, first_tail_value, after_first_clauses, clauses_rest, post_part_some, post_part_none}
 use Rattle.gv_goparse.proofs.ExprRules.{arguments_list, exprs_more, exprs_end, after_expr_more, after_expr_end, fields_more, fields_end, after_field_more, after_field_end, params_more, params_end, after_param_more, after_param_end, keyed_more, keyed_end, after_keyed_more, after_keyed_end, texts_more, texts_end, after_text_more, after_text_end, built_in_pair, built_in_make, built_in_new, make_rest_length, make_rest_none, literal_fields, whole_expr, bound_some, bound_none, expr_first, expr_tail_more, expr_tail_end, conjunction_first, conjunction_tail_more, conjunction_tail_end, comparison_first, comparison_tail_more, comparison_tail_end, sum_first, sum_tail_more, sum_tail_end, product_first, product_tail_more, product_tail_end, operators_tails, unary_sign, unary_prim, prim_name, prim_closed, prim_tail_member, prim_tail_bracket, prim_tail_end, closed_constant, closed_paren, closed_convert, bracket_open, in_bracket_slice, in_bracket_index, closing_index, closing_slice, type_of_word, type_of_slice, type_of_map, type_of_pointer, type_of_block, items_word, items_pointers, pointed_name, pointed_sync, after_sync_mutex, after_sync_name}

@@ -1,6 +1,7 @@
 -- What tokens are read as, and their refusal, are one, and there are not both.
-use Rattle.std.proofs.Common.{◌≡◌, ℕ, List, Some, Result, Ok, Err, IfErr, refl, sym, ap, ◌∙◌}
+use Rattle.std.proofs.Common.{◌≡◌, ℕ, List, Some, Result, Ok, Err, IfOk, IfErr, refl, subst, sym, ap, ◌∙◌}
 use Rattle.std.specs.Prelude.{slice_get}
+use Rattle.gv_base.specs.Places.{place_at}
 use Rattle.gv_base.specs.declared.answers.Code.{Code}
 use Rattle.gv_base.specs.declared.answers.Refusal.{Refusal}
 use Rattle.gv_base.specs.declared.answers.Refusal.TheVariants as refusal
@@ -8,16 +9,18 @@ use Rattle.gv_grammar.specs.Building.{act_of}
 use Rattle.gv_grammar.specs.Text.{Spells}
 use Rattle.gv_grammar.proofs.Whole.{at_most_one}
 use Rattle.gv_grammar.proofs.Decided.{one_refused, refused_or_unfinished, one_too_deep, spelled_or_refused, spelled_or_too_deep}
-use Rattle.gv_text.specs.Answers.{IsDecided, IsReadSo, Refuses}
+use Rattle.gv_text.specs.Answers.{IsReadSo, IsRefusedAs, Refuses}
 use Rattle.gv_gosyntax.specs.declared.generated.gosyntax_acts.Part.TheVariants.{Token as PToken, File as PFile}
 use Rattle.gv_goparse.specs.declared.reading.TheConstants.{MAX_LEVELS}
 use Rattle.gv_gosyntax.specs.declared.lexeme.Lexeme.{Lexeme}
 use Rattle.gv_gosyntax.specs.declared.generated.gosyntax_table.TheConstants.{NAME_FILE}
+use Rattle.gv_gosyntax.specs.declared.node.Tree.{Tree}
 use Rattle.gv_gosyntax.specs.declared.tree.File.{File}
+use Rattle.gv_gosyntax.specs.Nodes.{IsTreeOf}
 use Rattle.gv_gosyntax.specs.GosyntaxTable.{gosyntax_tables}
 use Rattle.gv_gosyntax.specs.GosyntaxActs.{gosyntax_acts}
 use Rattle.gv_goparse.specs.Language.{IsFile}
-use Rattle.gv_goparse.specs.Reading.{code_of, IsRead, IsPackage, IsRefusedAt, unexpected, too_deep, end_of_text}
+use Rattle.gv_goparse.specs.Reading.{code_of, IsRead, IsTree, IsRefusedAt, unexpected, too_deep, end_of_text}
 use Rattle.gv_goparse.proofs.Top.{go_laws}
 
 -- the token with a number is one
@@ -50,16 +53,18 @@ module _ (text : List ℕ) (tokens : List Lexeme) where
   not_both v _ _ p (too_deep i t e h) = spelled_or_too_deep (IsFile 0) MAX_LEVELS tokens v p.spelled p.within i h
   not_both v _ _ p (end_of_text h s) = h.none v p.spelled
 
-  -- of packages, whichever tree they spell
-  pub go_decided : {V : Type 0} → ((v w : V) → v ≡ w) → IsDecided (λ (v : V). IsPackage tokens) (IsRefusedAt text tokens)
-  go_decided one = record {
-    one_value = λ v w p q. one v w;
-    one_refusal = one_refusal;
-    not_both = λ v at code p r. not_both p.0 at code p.1 r;
-  }
+  -- a package that the tokens spell is read as its tree
+  pub tree_only : (result : Result Tree Refusal) → IfOk result (λ tree. IsTree tokens tree.nodes.items) → IfErr result (Refuses text (IsRefusedAt text tokens)) → (file : File) → IsRead tokens file
+      → IsReadSo (λ tree. IsTreeOf tree.nodes.items file) result
+  tree_only (Ok tree) h g file r = subst (λ (other : File). IsTreeOf tree.nodes.items other) (one_spelled 0 tokens h.file file h.read.spelled r.spelled) h.tree
+  tree_only (Err refusal.NoMemory) h g file r = tt
+  tree_only (Err (refusal.At place code)) h g file r = absurd (not_both file g.0 code r g.2)
 
-  -- a package is not refused
-  pub accepted_so : {V : Type 0} (result : Result V Refusal) → IfErr result (Refuses text (IsRefusedAt text tokens)) → IsPackage tokens → IsReadSo (λ (done : V). Unit {0}) result
-  accepted_so (Ok done) h p = tt
-  accepted_so (Err refusal.NoMemory) h p = tt
-  accepted_so (Err (refusal.At place code)) h p = absurd (not_both p.0 h.0 code p.1 h.2)
+  -- and what has a fault is refused there
+  pub tree_fault : (result : Result Tree Refusal) → IfOk result (λ tree. IsTree tokens tree.nodes.items) → IfErr result (Refuses text (IsRefusedAt text tokens)) → (at : ℕ) (code : Code) → IsRefusedAt text tokens at code
+      → IsRefusedAs (place_at text at) code result
+  tree_fault (Ok tree) h g at code r = absurd (not_both h.file at code h.read r)
+  tree_fault (Err refusal.NoMemory) h g at code r = tt
+  tree_fault (Err (refusal.At place other)) h g at code r =
+      let same = one_refusal g.0 at other code g.2 r in
+      (g.1 ∙ ap (place_at text) same.0, same.1)

@@ -15,7 +15,7 @@ use Rattle.gv_gosyntax.specs.declared.tree.Call.TheVariants.{Function, Pair, Mak
 use Rattle.gv_gosyntax.specs.declared.tree.Expr.TheVariants as expr
 use Rattle.gv_gosyntax.specs.declared.tree.GoType.TheVariants as type
 use Rattle.gv_gosyntax.specs.declared.tree.Call.TheVariants as call_tree
-use Rattle.gv_goparse.specs.Language.{Tokens, Is, AnyOf, other_names, names, IsList, IsPointed, IsType, IsExpr, IsBound, IsWhole, IsKeyed, IsCall, IsText, IsGroup, items, named, mutex, type_word, type_slice, type_pointers, type_map, type_pointer, type_block, constant, paren, convert, invert, prim, unary, times, product, plus, sum, compare, comparison, both, conjunction, either, unbound, bound, whole, keyed, pair, make, make_length, new, literal, value, go, one_text}
+use Rattle.gv_goparse.specs.Language.{Tokens, Is, AnyOf, other_names, names, IsList, IsPointed, IsType, IsExpr, IsBound, IsWhole, IsKeyed, IsCall, IsText, IsGroup, items, named, mutex, type_word, type_slice, type_pointers, type_map, type_pointer, type_block, constant, paren, convert, invert, prim, unary, times, product, plus, sum, compare, comparison, both, conjunction, either, unbound, bound, whole, keyed, pair, make, make_length, new, literal, one_text}
 use Rattle.gv_goparse.proofs.Meanings.{Prim, Unary, Product, Sum, Comparison, Conjunction, Expression, member_prim, place_prim, front_next, front_list, IsSlice, IsMaking, IsSync, Keeps, go_name, go_closed, go_dot, go_open, go_to, go_first, go_index, go_from, ends, end_here, alone_so, of_alone, slice_start, making, sync_start, fresh, behind}
 use Rattle.gv_goparse.proofs.SimpleRules.{member_call, go_bracket}
 

@@ -16,7 +16,7 @@ use Rattle.gv_gosyntax.specs.declared.tree.ForHeader.{ForHeader}
 use Rattle.gv_gosyntax.specs.declared.tree.Expr.TheVariants.{Name, Select, Index, Slice}
 use Rattle.gv_gosyntax.specs.declared.tree.Stmt.TheVariants as stmt
 use Rattle.gv_gosyntax.specs.GosyntaxTable.{gosyntax_tables}
-use Rattle.gv_goparse.specs.Language.{Tokens, Is, AnyOf, names, IsItems, IsList, IsPointed, IsType, IsPrim, IsUnary, IsProduct, IsSum, IsComparison, IsConjunction, IsExpr, IsBound, IsWhole, IsKeyed, IsCall, IsRight, IsLeft, IsSimple, IsPart, IsValue, IsStmt, IsIf, IsBlock, IsStmts, IsBody, IsName, IsText, IsGroup, IsReceiver, IsResults, IsDecl, IsImport, IsImports, IsDecls, IsFile, first, next, empty, closed, name, select, index, slice, unbound, bound, whole, value, variable, field, item, operand, forever, while, clauses, return_none, return_one, return_more, go, only, otherwise, chain, next_stmt, last_open}
+use Rattle.gv_goparse.specs.Language.{Tokens, Is, AnyOf, names, IsItems, IsList, IsPointed, IsType, IsPrim, IsUnary, IsProduct, IsSum, IsComparison, IsConjunction, IsExpr, IsBound, IsWhole, IsKeyed, IsCall, IsRight, IsLeft, IsSimple, IsPart, IsValue, IsStmt, IsIf, IsBlock, IsStmts, IsBody, IsName, IsText, IsGroup, IsReceiver, IsResults, IsDecl, IsImport, IsImports, IsDecls, IsFile, first, next, empty, closed, name, select, index, slice, unbound, bound, whole, value, variable, field, item, operand, forever, while, clauses, return_none, return_one, return_more, only, otherwise, chain, next_stmt, last_open}
 
 -- ---- what is read so far, where only what follows tells what it is
 

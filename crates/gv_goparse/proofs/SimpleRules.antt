@@ -12,7 +12,7 @@ use Rattle.gv_gosyntax.specs.declared.tree.Call.TheVariants.{Function}
 use Rattle.gv_gosyntax.specs.declared.tree.Right.TheVariants.{Value, Result}
 use Rattle.gv_gosyntax.specs.declared.tree.Expr.TheVariants as expr
 use Rattle.gv_gosyntax.specs.declared.tree.Simple.TheVariants as simple_stmt
-use Rattle.gv_goparse.specs.Language.{Tokens, Is, AnyOf, inverting, assigning, counting, updating, IsItems, IsList, IsWhole, IsCall, IsRight, IsLeft, IsSimple, IsPart, IsValue, IsBlock, first, next, invert, prim, whole, function, method, value, result, assign, assign_two, count, update, call, no_part, part, operand, go}
+use Rattle.gv_goparse.specs.Language.{Tokens, Is, AnyOf, inverting, assigning, counting, updating, IsItems, IsList, IsWhole, IsCall, IsRight, IsLeft, IsSimple, IsPart, IsValue, IsBlock, first, next, invert, prim, whole, function, method, value, result, assign, assign_two, count, update, call, no_part, part, operand}
 use Rattle.gv_goparse.proofs.Meanings.{Prim, Unary, Expression, IsAlone, IsMember, IsPlace, member_prim, place_prim, place_left, IsLoop, IsRights, values_rights, Keeps, go_name, go_closed, go_dot, go_open, go_to, go_first, go_index, go_from, go_on, end_here, alone_so, alone, of_alone, member, of_member, forever_loop, while_loop, clauses_loop, no_rights, one_right}
 
 -- a call of a name

@@ -11,7 +11,7 @@ use Rattle.gv_gosyntax.specs.declared.tree.Right.{Right}
 use Rattle.gv_gosyntax.specs.declared.tree.Decl.TheVariants.{Struct, Const}
 use Rattle.gv_gosyntax.specs.declared.tree.Stmt.TheVariants as stmt
 use Rattle.gv_gosyntax.specs.declared.tree.Decl.TheVariants as decl
-use Rattle.gv_goparse.specs.Language.{Tokens, Is, names, IsItems, IsType, IsWhole, IsRight, IsStmt, IsIf, IsBlock, IsBody, IsName, IsGroup, IsReceiver, IsResults, IsDecl, IsImport, IsImports, IsDecls, IsFile, first, next, name, whole, simple, var, var_value, branch, nested, jump, go, braces, no_stmts, next_empty, all_closed, one_name, group, no_receiver, receiver, no_results, one_result, results, struct, const, typed_const, func, one_import, imports, no_imports, next_import, no_decls, next_decl, file}
+use Rattle.gv_goparse.specs.Language.{Tokens, Is, IsItems, IsType, IsWhole, IsRight, IsStmt, IsIf, IsBlock, IsBody, IsName, IsGroup, IsReceiver, IsResults, IsDecl, IsImport, IsImports, IsDecls, IsFile, first, next, whole, simple, var, var_value, branch, nested, jump, go, braces, no_stmts, next_empty, all_closed, one_name, group, no_receiver, receiver, no_results, one_result, results, struct, const, typed_const, func, one_import, imports, no_imports, next_import, no_decls, next_decl, file}
 use Rattle.gv_goparse.proofs.Meanings.{unclosed_body, unclosed_stmts, IsHalf, half_only, half_otherwise, half_chain, loop_stmt, rights_stmt, IsVar, IsConst, Keeps, end_here, alone_so, unclosed, half, var_start, const_start, fresh}
 
 pub braces_block : Keeps RULE_BRACES_BLOCK NAME_BRACES

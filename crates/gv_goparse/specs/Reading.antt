@@ -6,6 +6,8 @@ use Rattle.gv_grammar.specs.Text.{Spells, IsWithin, IsRefused, IsUnfinished, IsT
 use Rattle.gv_gosyntax.specs.declared.generated.gosyntax_table.TheConstants.{CLASS_OUTSIDE}
 use Rattle.gv_gosyntax.specs.declared.lexeme.Lexeme.{Lexeme}
 use Rattle.gv_gosyntax.specs.declared.tree.File.{File}
+use Rattle.gv_gosyntax.specs.declared.node.Node.{Node}
+use Rattle.gv_gosyntax.specs.Nodes.{IsTreeOf}
 use Rattle.gv_goparse.specs.declared.reading.TheConstants.{MAX_LEVELS}
 use Rattle.gv_goparse.specs.Language.{IsFile}
 
@@ -19,9 +21,11 @@ pub record IsRead (tokens : List Lexeme) (tree : File) : Type 0 where
   pub spelled : Spells (IsFile 0) tree tokens
   pub within : IsWithin (IsFile 0) MAX_LEVELS tree tokens
 
--- they are a package
-abbrev pub IsPackage : List Lexeme → Type 0
-IsPackage tokens = (tree : File) × IsRead tokens tree
+-- The nodes are the tree of the package that the tokens spell.
+pub record IsTree (tokens : List Lexeme) (nodes : List Node) : Type 0 where
+  pub file : File
+  pub tree : IsTreeOf nodes file
+  pub read : IsRead tokens file
 
 -- The first fault of the grammar, at a token or at the text's end.
 pub data IsRefusedAt (text : List ℕ) (tokens : List Lexeme) : ℕ → Code → Type 0 where

@@ -6,6 +6,7 @@ use Rattle.gv_base.specs.declared.token.Kind.TheVariants.{Word, Number, Text, Si
 use Rattle.gv_base.specs.declared.token.Token.{Token}
 use Rattle.gv_gosyntax.specs.declared.generated.gosyntax_table.TheConstants.{CLASS_AMP, CLASS_AMP_ASSIGN, CLASS_AMP_CARET, CLASS_AMP_CARET_ASSIGN, CLASS_AND_AND, CLASS_APPEND, CLASS_ASSIGN, CLASS_AT_LEAST, CLASS_AT_MOST, CLASS_BANG, CLASS_BAR, CLASS_BAR_ASSIGN, CLASS_BLOCK, CLASS_BOOL, CLASS_BREAK, CLASS_BYTE, CLASS_CARET, CLASS_CARET_ASSIGN, CLASS_COLON, CLASS_COMMA, CLASS_CONST, CLASS_CONTINUE, CLASS_DECREMENT, CLASS_DEFINE, CLASS_DELETE, CLASS_DISK, CLASS_DOT, CLASS_ELSE, CLASS_EQUAL, CLASS_FALSE, CLASS_FOR, CLASS_FUNC, CLASS_GO, CLASS_GREATER, CLASS_IDENT, CLASS_IF, CLASS_IMPORT, CLASS_INCREMENT, CLASS_LEN, CLASS_LESS, CLASS_L_BRACE, CLASS_L_BRACKET, CLASS_L_PAREN, CLASS_MAKE, CLASS_MAP, CLASS_MINUS, CLASS_MINUS_ASSIGN, CLASS_MUTEX, CLASS_NEW, CLASS_NIL, CLASS_NOT_EQUAL, CLASS_NUMBER, CLASS_OR_OR, CLASS_OUTSIDE, CLASS_PACKAGE, CLASS_PERCENT, CLASS_PERCENT_ASSIGN, CLASS_PLUS, CLASS_PLUS_ASSIGN, CLASS_RETURN, CLASS_R_BRACE, CLASS_R_BRACKET, CLASS_R_PAREN, CLASS_SEMI, CLASS_SHIFT_LEFT, CLASS_SHIFT_LEFT_ASSIGN, CLASS_SHIFT_RIGHT, CLASS_SHIFT_RIGHT_ASSIGN, CLASS_SLASH, CLASS_SLASH_ASSIGN, CLASS_STAR, CLASS_STAR_ASSIGN, CLASS_STRUCT, CLASS_SYNC, CLASS_TEXT, CLASS_TRUE, CLASS_TWODISK, CLASS_TYPE, CLASS_UINT64, CLASS_VAR}
 use Rattle.gv_gosyntax.specs.declared.lexeme.Lexeme.{Lexeme}
+use Rattle.gv_goparse.specs.declared.seen.TheConstants.{CLASS_UNKNOWN}
 
 -- the class that a table gives bytes, or another one where they don't stand in it
 abbrev pub listed : List (List ℕ × ℕ) → ℕ → List ℕ → ℕ
@@ -92,8 +93,9 @@ abbrev pub outside_signs : List (List ℕ × ℕ)
 outside_signs =
     (codes "<-", CLASS_OUTSIDE) ∷ (codes "...", CLASS_OUTSIDE) ∷ []
 
+-- a sign that stands in none of these lists has a class that no rule of the grammar has
 abbrev pub sign_class : List ℕ → ℕ
-sign_class bytes = listed marks (listed operators_of_one (listed operators_of_two (listed updating_signs (listed outside_signs CLASS_OUTSIDE bytes) bytes) bytes) bytes) bytes
+sign_class bytes = listed marks (listed operators_of_one (listed operators_of_two (listed updating_signs (listed outside_signs CLASS_UNKNOWN bytes) bytes) bytes) bytes) bytes
 
 unfoldable pub class_of : Kind → List ℕ → ℕ
 class_of Word bytes = word_class bytes

@@ -1,4 +1,4 @@
-//! Tells whether the tokens of a text are a package.
+//! Reads the tokens of a text as the tree of a package.
 
 ghost use Rattle.std.specs.Prelude.{◌≡◌, ◌<◌, ◌-◌, ◌^◌, ℕ, Some, length, map, slice_get, IfOk, IfErr};
 ghost use Rattle.gv_base.specs.Places.{place_at};
@@ -7,12 +7,14 @@ ghost use Rattle.gv_grammar.specs.Text.{Says};
 ghost use Rattle.gv_text.specs.Answers.{IsReadSo, IsRefusedAs, Refuses};
 ghost use Rattle.gv_goparse.specs.Language.{IsFile};
 ghost use Rattle.gv_goparse.specs.Seen.{seen as seen_in};
-ghost use Rattle.gv_goparse.specs.Reading.{IsPackage, IsRefusedAt, code_of as code_by};
+ghost use Rattle.gv_goparse.specs.Reading.{IsRead, IsRefusedAt, IsTree, code_of as code_by};
+ghost use Rattle.gv_gosyntax.specs.Nodes.{IsTreeOf};
+ghost use Rattle.gv_gosyntax.specs.declared.tree.File.{File as AnyFile};
 
 use crate::seen::seen;
 use gv_base::{Code, Refusal, Token};
-use gv_gosyntax::Lexeme;
 use gv_gosyntax::generated::gosyntax_table::{CLASS_OUTSIDE, NAME_FILE, gosyntax_grammar};
+use gv_gosyntax::{Lexeme, Node, Tree, nodes_of};
 use gv_grammar::{ReadFault, derive_within};
 use gv_text::refusal_at;
 use std::alloc::{AllocError, Global};
@@ -27,9 +29,9 @@ fn classes_of(alloc: Global, tokens: &[Lexeme]) -> Result<Vec<u8>, AllocError>
     tokens.iter().map(|token| token.class).collect(alloc)
 }
 
-// Whether the tokens spell a package, or their first fault.
-fn recognized(alloc: Global, tokens: &[Lexeme]) -> Result<(), ReadFault>
-    ensures accepted { IfOk result (λ done. IsPackage tokens.now) }
+// The tree of the tokens, or their first fault.
+fn read(alloc: Global, tokens: &[Lexeme]) -> Result<Vec<Node>, ReadFault>
+    ensures read { IfOk result (λ nodes. IsTree tokens.now nodes.items) }
     ensures fault { IfErr result (Says (IsFile 0) MAX_LEVELS tokens.now) }
 {
     let classes = classes_of(alloc, tokens)?;
@@ -41,7 +43,7 @@ fn recognized(alloc: Global, tokens: &[Lexeme]) -> Result<(), ReadFault>
         0,
         MAX_LEVELS,
     ) {
-        Ok(_) => Ok(()),
+        Ok(steps) => Ok(nodes_of(alloc, &steps, tokens)?),
         Err(fault) => Err(fault),
     }
 }
@@ -85,20 +87,20 @@ fn refusal_of(text: &[u8], tokens: &[Lexeme], fault: ReadFault) -> Refusal
     }
 }
 
-// Whether a text is a package, or its refusal.
-fn recognized_or_refused(alloc: Global, text: &[u8], tokens: &[Token]) -> Result<(), Refusal>
+// The tree of a text, or its refusal.
+fn read_or_refused(alloc: Global, text: &[u8], tokens: &[Token]) -> Result<Tree, Refusal>
     requires { length text.now < 2 ^ 32 - 1 }
-    ensures accepted { IfOk result (λ done. IsPackage (seen_in text.now tokens.now)) }
+    ensures read { IfOk result (λ tree. IsTree (seen_in text.now tokens.now) tree.nodes.items) }
     ensures refused { IfErr result (Refuses text.now (IsRefusedAt text.now (seen_in text.now tokens.now))) }
 {
     let seen = seen(alloc, text, tokens)?;
-    match recognized(alloc, &seen) {
-        Ok(()) => Ok(()),
+    match read(alloc, &seen) {
+        Ok(nodes) => Ok(Tree { nodes }),
         Err(fault) => Err(refusal_of(text, &seen, fault)),
     }
 }
 
-/// Whether the tokens of a text spell a package by its grammar, within 200 levels of nesting, or the text's refusal.
+/// The tree of the package that the tokens of a text spell by its grammar, within 200 levels of nesting, or the text's refusal.
 /// The tokens are those that `tokens` of gv_tokens gives for the text, of fewer than 2^32 - 1 bytes. It takes time and
 /// room linear in their number.
 ///
@@ -107,17 +109,17 @@ fn recognized_or_refused(alloc: Global, text: &[u8], tokens: &[Token]) -> Result
 /// 201, the refusal is `TooDeep` there. It is `EndOfText`, at the place after the last byte, where the tokens begin a
 /// package and are none. `NoMemory` comes where memory runs out. Names and types are not looked at.
 /// The grammar is this project's profile of the Go specification.
-pub fn recognize(alloc: Global, text: &[u8], tokens: &[Token]) -> Result<(), Refusal>
+pub fn parse(alloc: Global, text: &[u8], tokens: &[Token]) -> Result<Tree, Refusal>
     requires { length text.now < 2 ^ 32 - 1 }
 
-    // What is accepted is a package, and a package is accepted.
-    ensures accepted { IfOk result (λ done. IsPackage (seen_in text.now tokens.now)) }
-    ensures only { IsPackage (seen_in text.now tokens.now) → IsReadSo (λ done. Unit {0}) result }
+    // What is read is the tree of a package that the tokens spell, and a package that they spell is read as its tree.
+    ensures read { IfOk result (λ tree. IsTree (seen_in text.now tokens.now) tree.nodes.items) }
+    ensures only { (file : AnyFile) → IsRead (seen_in text.now tokens.now) file → IsReadSo (λ tree. IsTreeOf tree.nodes.items file) result }
 
     // A refusal stands at the first fault of the grammar, and where there is one, the text is refused there.
     ensures refused { IfErr result (Refuses text.now (IsRefusedAt text.now (seen_in text.now tokens.now))) }
     ensures fault { (at : ℕ) (code : AnyCode) → IsRefusedAt text.now (seen_in text.now tokens.now) at code
         → IsRefusedAs (place_at text.now at) code result }
 {
-    recognized_or_refused(alloc, text, tokens)
+    read_or_refused(alloc, text, tokens)
 }

@@ -23,6 +23,9 @@ use gv_gosyntax::generated::gosyntax_table::{
 };
 use std::alloc::{AllocError, Global};
 
+/// The class of a sign that isn't one of Go's: no rule of the grammar has it.
+pub const CLASS_UNKNOWN: u8 = 255;
+
 fn declaration_word(word: &[u8], other: u8) -> u8
     ensures { result ≡ spec.listed spec.declaration_words other word.now }
 {
@@ -235,7 +238,7 @@ fn word_class(word: &[u8]) -> u8
 fn sign_class(sign: &[u8]) -> u8
     ensures { result ≡ spec.sign_class sign.now }
 {
-    let class = outside_sign(sign, CLASS_OUTSIDE);
+    let class = outside_sign(sign, CLASS_UNKNOWN);
     let class = updating_sign(sign, class);
     let class = operator_of_two(sign, class);
     let class = operator_of_one(sign, class);

@@ -1,1 +1,2 @@
 pub mod GosyntaxPredictive
+pub mod Nodes

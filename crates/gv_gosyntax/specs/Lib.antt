@@ -1,2 +1,4 @@
 pub mod GosyntaxTable
 pub mod GosyntaxActs
+pub mod Making
+pub mod Nodes

@@ -4,11 +4,17 @@
 //! a package is read as.
 #![tactic(auto)]
 
+mod building;
 pub mod generated;
 mod lexeme;
+mod node;
+mod parts;
 mod tree;
 
+pub use building::nodes_of;
 pub use lexeme::Lexeme;
+pub use node::{Node, Tree};
+pub use parts::part_of;
 pub use tree::{
     Block, Call, Decl, Expr, File, ForHeader, Func, GoType, Group, KeyedExpr, Pointed, Receiver,
     Right, Simple, Stmt,

@@ -1,8 +1,9 @@
-//! Checks tables of texts, each with whether it is a package or how it is refused: syntax_cases FILE..
+//! Checks tables of texts, each with its tree or whether it is a package, or how it is refused: syntax_cases FILE..
 //!
-//! `texts` says how a table writes its texts, and `shown` how it writes the answer.
+//! `texts` says how a table writes its texts, `shown` how it writes the answer, and `printed` how it writes a tree.
 #![tactic(auto)]
 
+mod printed;
 mod shown;
 mod texts;
 

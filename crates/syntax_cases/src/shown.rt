@@ -1,33 +1,50 @@
-//! Answers as a table writes them: `package`, or the line, the column and the code of a refusal.
+//! Answers as a table writes them: `package` or its tree, or the line, the column and the code of a refusal.
 
+use crate::printed::printed;
 use anyhow::{Result, bail};
 use gv_base::{Place, Refusal};
-use gv_goparse::recognize;
+use gv_goparse::parse;
+use gv_gosyntax::Tree;
 use gv_tokens::tokens;
 use std::alloc::Global;
 
 /// The most bytes of a text.
 pub(crate) const MOST: usize = 1 << 24;
 
-// Whether a text is a package, by its characters and then by its grammar.
-fn read(alloc: Global, text: &[u8]) -> Result<Result<(), Refusal>> {
+// The tree of a text, by its characters and then by its grammar.
+fn read(alloc: Global, text: &[u8]) -> Result<Result<Tree, Refusal>> {
     if text.len() > MOST {
         bail!("a text of more than {MOST} bytes");
     }
     match tokens(alloc, text) {
-        Ok(tokens) => Ok(recognize(alloc, text, &tokens)),
+        Ok(tokens) => Ok(parse(alloc, text, &tokens)),
         Err(refusal) => Ok(Err(refusal)),
     }
 }
 
-/// The answer for a text.
-pub(crate) fn answer_text(alloc: Global, text: &[u8]) -> Result<String> {
-    match read(alloc, text)? {
-        Ok(()) => Ok(String::from_str(alloc, "package")?),
-        Err(Refusal::NoMemory) => bail!("out of memory"),
-        Err(Refusal::At { place, code }) => {
+// How a refusal is written.
+fn refused(alloc: Global, refusal: Refusal) -> Result<String> {
+    match refusal {
+        Refusal::NoMemory => bail!("out of memory"),
+        Refusal::At { place, code } => {
             let Place { line, column } = place;
             Ok(format!(in alloc; "{line}:{column} {}", code.name())?)
         }
+    }
+}
+
+/// The answer for a text: whether it is a package.
+pub(crate) fn answer_text(alloc: Global, text: &[u8]) -> Result<String> {
+    match read(alloc, text)? {
+        Ok(_) => Ok(String::from_str(alloc, "package")?),
+        Err(refusal) => refused(alloc, refusal),
+    }
+}
+
+/// The answer for a text: its tree.
+pub(crate) fn answer_tree(alloc: Global, text: &[u8]) -> Result<String> {
+    match read(alloc, text)? {
+        Ok(tree) => printed(alloc, text, &tree),
+        Err(refusal) => refused(alloc, refusal),
     }
 }

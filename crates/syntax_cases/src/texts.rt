@@ -1,18 +1,20 @@
 //! How a table writes its texts.
 
-use crate::shown::{MOST, answer_text};
+use crate::shown::{MOST, answer_text, answer_tree};
 use anyhow::{Context, Result, bail};
 use case_table::{Meaning, unescaped};
 use std::alloc::Global;
 
 /// How the texts are written: whole; as parts that are separated by ` @ `, each with how many times it stands, as in
 /// `1 package p\n @ 200 import "a"\n`; or several that begin alike, as in `package p\nconst @ + - 5`, where the text before the
-/// ` @ ` goes on with a space and with one word of those behind it.
+/// ` @ ` goes on with a space and with one word of those behind it. Or whole, where the
+/// table wants their trees.
 #[derive(Clone, Copy, Debug)]
 pub(crate) enum Texts {
     Whole,
     InParts,
     BegunAlike,
+    Trees,
 }
 
 fn push_times(text: &mut Vec<u8>, part: &[u8], times: u32) -> Result<()> {
@@ -42,7 +44,11 @@ fn joined(alloc: Global, said: &str) -> Result<Vec<u8>> {
 
 // The answer for a text, where that isn't what the table wants.
 fn other_answer(alloc: Global, text: &[u8], want: &str) -> Result<Option<String>> {
-    let answer = answer_text(alloc, text)?;
+    other_than(answer_text(alloc, text)?, want)
+}
+
+// An answer, where that isn't what the table wants.
+fn other_than(answer: String, want: &str) -> Result<Option<String>> {
     if answer.as_str() == want {
         Ok(None)
     } else {
@@ -76,6 +82,7 @@ impl Meaning for Texts {
             "whole texts" => *self = Texts::Whole,
             "texts in parts" => *self = Texts::InParts,
             "texts that begin alike" => *self = Texts::BegunAlike,
+            "trees of texts" => *self = Texts::Trees,
             _ => return Ok(false),
         }
         Ok(true)
@@ -86,6 +93,7 @@ impl Meaning for Texts {
             Texts::Whole => other_answer(alloc, &unescaped(alloc, said)?, want),
             Texts::InParts => other_answer(alloc, &joined(alloc, said)?, want),
             Texts::BegunAlike => other_of_alike(alloc, said, want),
+            Texts::Trees => other_than(answer_tree(alloc, &unescaped(alloc, said)?)?, want),
         }
     }
 }

@@ -1,4 +1,4 @@
-use Rattle.std.proofs.Common.{ℕ, refl, sym, subst}
+use Rattle.std.proofs.Common.{refl, sym, subst}
 use Rattle.gv_base.specs.declared.answers.Code.{Code}
 use Rattle.gv_grammar.specs.Text.{Says}
 use Rattle.gv_grammar.specs.declared.read_faults.ReadFault.{ReadFault}

@@ -3,7 +3,7 @@ use Rattle.gv_grammar.specs.Text.{Says}
 use Rattle.gv_goparse.specs.declared.reading.TheConstants.{MAX_LEVELS}
 use Rattle.gv_gosyntax.specs.declared.lexeme.Lexeme.{Lexeme}
 use Rattle.gv_goparse.specs.Language.{IsFile}
-use Rattle.gv_goparse.proofs.reading.recognized_or_refused.Goals as goal
+use Rattle.gv_goparse.proofs.reading.read_or_refused.Goals as goal
 
 pub refusal_of-requires-clause-says : goal.refusal_of-requires-clause-says
 refusal_of-requires-clause-says c =
