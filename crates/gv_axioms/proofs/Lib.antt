@@ -1,0 +1,17 @@
+pub mod Worth
+pub mod Values
+pub mod Logic
+pub mod Arithmetic
+pub mod Items
+pub mod Zeros
+pub mod WordBytes
+pub mod Entries
+pub mod Slices
+pub mod Forms
+pub mod Fillings
+pub mod AllTrue
+pub mod Places
+pub mod Written
+pub mod Runs
+pub mod Stacks
+pub mod Refused

@@ -1,0 +1,3 @@
+//! What tools/axioms.py makes.
+
+pub(crate) mod table;
