@@ -1,0 +1,2 @@
+pub mod SmallSpec
+pub mod Laws
