@@ -3,10 +3,12 @@ use Rattle.std.specs.Prelude.{◌≡◌, ◌≢◌, ℕ, ◌⊎◌, List, [], �
 use Rattle.std.specs.Fmt.{decimal}
 use Rattle.gv_base.specs.declared.answers.Place.{Place}
 use Rattle.gv_base.specs.Codes.{code_name}
+use Rattle.gv_history.specs.Fault.{cause_name as walk_cause_name}
 use Rattle.gv_report.specs.declared.cause.Cause.{Cause}
 use Rattle.gv_report.specs.declared.cause.Cause.TheVariants as cause
 use Rattle.gv_report.specs.declared.report.Report.{Report}
 use Rattle.gv_report.specs.declared.report.Report.TheVariants.{Usage, OutOfMemory, CannotRead, Refused, Unjustified, AcceptedWithoutCrash}
+use Rattle.gv_report.specs.declared.report.Report.TheVariants.{Explained, NotExplained}
 use Rattle.gv_report.specs.declared.bytes.Bytes.{Bytes}
 use Rattle.gv_report.specs.declared.bytes.Bytes.TheVariants.{Fixed, Made}
 
@@ -24,7 +26,9 @@ place_text place = decimal place.line ++ codes ":" ++ decimal place.column
 -- the status that the program ends with, where the report is written
 abbrev pub status_of : Report → ℕ
 status_of AcceptedWithoutCrash = 0
+status_of Explained = 0
 status_of (Unjustified place why) = 1
+status_of (NotExplained at why) = 1
 status_of Usage = 2
 status_of (CannotRead name) = 3
 status_of (Refused name place code) = 4
@@ -34,6 +38,8 @@ status_of OutOfMemory = 5
 abbrev pub lines_of : Report → List (List ℕ)
 lines_of AcceptedWithoutCrash = codes "accepted for runs without crash" ∷ []
 lines_of (Unjustified place why) = (codes "unjustified " ++ place_text place ++ codes " " ++ cause_name why) ∷ []
+lines_of Explained = codes "explained" ∷ []
+lines_of (NotExplained at why) = (codes "not explained at " ++ decimal at ++ codes " " ++ walk_cause_name why) ∷ []
 lines_of Usage =
     codes "usage: goosecheck check PKG SPEC SCRIPT, replay PKG SPEC SCHEDULE, explain SPEC HISTORY MOVES, points PKG, gen NUMBER, each with or without json"
     ∷ []

@@ -6,9 +6,11 @@ mod bytes;
 mod cause;
 mod lines;
 mod pieces;
+mod ran;
 mod report;
 
 pub use answer::Answer;
 pub use cause::Cause;
 pub use lines::text;
+pub use ran::Ran;
 pub use report::Report;

@@ -7,6 +7,7 @@ ghost use Rattle.gv_report.specs.declared.report.Report.{Report as ReportForm};
 use crate::cause::Cause;
 use crate::report::Report;
 use gv_base::{Code, Name, NoMemory, Place};
+use gv_history::WalkCause;
 use std::alloc::Global;
 
 /// The usage line.
@@ -43,6 +44,15 @@ fn refused(alloc: Global, name: &Name, place: Place, code: Code) -> Result<Vec<u
     Ok(text)
 }
 
+fn not_explained(alloc: Global, at: u32, cause: WalkCause) -> Result<Vec<u8>, NoMemory>
+    ensures { IfOk result (λ v. v.items ≡ spec.text_of (ReportForm.NotExplained at cause)) }
+{
+    let mut text = Vec::from_slice(alloc, b"not explained at ")?;
+    let rest = format!(in alloc; "{} {}\n", at, cause.name())?;
+    text.extend_from_slice(rest.as_bytes())?;
+    Ok(text)
+}
+
 /// The report's text: its lines, each with a newline behind it.
 pub fn text(alloc: Global, report: &Report) -> Result<Vec<u8>, NoMemory>
     ensures { IfOk result (λ v. v.items ≡ spec.text_of report.now) }
@@ -52,6 +62,8 @@ pub fn text(alloc: Global, report: &Report) -> Result<Vec<u8>, NoMemory>
             Ok(Vec::from_slice(alloc, b"accepted for runs without crash\n")?)
         }
         Report::Unjustified { place, cause } => unjustified(alloc, *place, *cause),
+        Report::Explained => Ok(Vec::from_slice(alloc, b"explained\n")?),
+        Report::NotExplained { at, cause } => not_explained(alloc, *at, *cause),
         Report::Usage => Ok(Vec::from_slice(alloc, USAGE)?),
         Report::CannotRead { name } => unread(alloc, name),
         Report::Refused { name, place, code } => refused(alloc, name, *place, *code),

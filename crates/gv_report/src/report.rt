@@ -5,6 +5,7 @@ ghost use Rattle.gv_report.specs.Report.{status_of};
 
 use crate::cause::Cause;
 use gv_base::{Code, Name, Place};
+use gv_history::WalkCause;
 
 /// The outcome of a command line and its files. This project's own.
 #[derive(Debug, Drop)]
@@ -30,6 +31,13 @@ pub enum Report {
     },
     /// The package refines the specification in every run without a crash.
     AcceptedWithoutCrash,
+    /// The moves explain the history.
+    Explained,
+    /// The first move that is refused, counted from 1, or one past the last one, where history is left.
+    NotExplained {
+        at: u32,
+        cause: WalkCause,
+    },
 }
 
 impl Report {
@@ -38,8 +46,8 @@ impl Report {
         ensures { result ≡ status_of self.now }
     {
         match self {
-            Report::AcceptedWithoutCrash => 0,
-            Report::Unjustified { .. } => 1,
+            Report::AcceptedWithoutCrash | Report::Explained => 0,
+            Report::Unjustified { .. } | Report::NotExplained { .. } => 1,
             Report::Usage => 2,
             Report::CannotRead { .. } => 3,
             Report::Refused { .. } => 4,

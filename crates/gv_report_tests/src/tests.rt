@@ -1,6 +1,7 @@
 //! The line and the status of each report, and a report that is cut off.
 
 use gv_base::{Code, List, MemSink, Name, Place, SureSink};
+use gv_history::WalkCause;
 use gv_report::{Answer, Cause, Report, text};
 use std::alloc::Global;
 use std::process::Abort;
@@ -56,6 +57,18 @@ fn tells_each_report(rt: HostRuntime) -> Result<(), Fail> {
         code: Code::TooLong,
     };
     tells(&rt, alloc, refused, 4, b"a file:7:31 TooLong\n")?;
+    tells(&rt, alloc, Report::Explained, 0, b"explained\n")?;
+    let unexplained = Report::NotExplained {
+        at: 12,
+        cause: WalkCause::NotActed,
+    };
+    tells(
+        &rt,
+        alloc,
+        unexplained,
+        1,
+        b"not explained at 12 NotActed\n",
+    )?;
     tells(&rt, alloc, Report::OutOfMemory, 5, b"out of memory\n")?;
     tells(
         &rt,
