@@ -1,15 +1,11 @@
 -- The words of a command.
-use Rattle.std.proofs.Common.{◌≡◌, ℕ, zero, suc, ◌+◌, ◌-◌, ◌<◌, true, false, List, [], ◌∷◌, length, get_or, Some, refl, sym, ap, ◌∙◌, arith}
-use Rattle.std.specs.Prelude.{slice_get, string_bytes, codes}
+use Rattle.std.proofs.Common.{◌≡◌, ℕ, zero, suc, ◌+◌, ◌-◌, true, false, if◌then◌else◌, List, [], ◌∷◌, length, get_or, Option, Some, None, refl, sym, ap, ◌∙◌, arith}
+use Rattle.std.specs.Prelude.{slice_get, string_bytes, codes, IfNone}
 use Rattle.std.specs.Str.{bytes_eq}
 use Rattle.std.specs.declared.string.String.{String}
 use Rattle.std.specs.declared.alloc.Global.{Global}
 use Rattle.std.proofs.lemmas.Option.{slice_get_within}
-use Rattle.std.proofs.lemmas.Slice.Eq.{bytes_eq-Decides}
-use Rattle.gv_top.specs.declared.check.CheckWords.{CheckWords}
-use Rattle.gv_top.specs.declared.commands.Command as held
-use Rattle.gv_top.specs.declared.commands.Command.TheVariants as held_command
-use Rattle.gv_top.specs.Commands.{check, Asks, asks_for_json, texts}
+use Rattle.gv_top.specs.Commands.{Command, check, explain, words_of, Asks, asks_for_json, texts, AreWordsOf}
 
 -- ---- the last word
 
@@ -33,14 +29,33 @@ four (p ∷ q ∷ r ∷ []) a b c d n w x y z = absurd (omega arith)
 four (p ∷ q ∷ r ∷ s ∷ []) a b c d n w x y z = rw (w, x, y, z) refl
 four (p ∷ q ∷ r ∷ s ∷ t ∷ more) a b c d n w x y z = absurd (omega arith)
 
-pub is_check : (ws : List (String Global)) (a b c d : String Global) → length ws ≡ 4 → a ≡ get_or ws 0 a → b ≡ get_or ws 1 b → c ≡ get_or ws 2 c → d ≡ get_or ws 3 d →
-    bytes_eq (string_bytes a) (codes "check") ≡ true → asks_for_json (texts ws) ≡ false → Asks (texts ws) (check (string_bytes b) (string_bytes c) (string_bytes d))
-is_check ws a b c d n w x y z h j = record {
-  plain = j;
-  words_are = ap texts (four ws a b c d n w x y z) ∙ ap (λ (v : List ℕ). v ∷ string_bytes b ∷ string_bytes c ∷ string_bytes d ∷ []) ((bytes_eq-Decides (string_bytes a) (codes "check")).0 h);
-}
+-- they are the words of a command
+pub words_three : (ws : List (String Global)) (a b c d : String Global) (command : Command) → length ws ≡ 4 → a ≡ get_or ws 0 a → b ≡ get_or ws 1 b → c ≡ get_or ws 2 c → d ≡ get_or ws 3 d
+    → Asks (texts ws) command → AreWordsOf command (string_bytes a) (string_bytes b) (string_bytes c) (string_bytes d)
+words_three ws a b c d command n w x y z h = sym h.words_are ∙ ap texts (four ws a b c d n w x y z)
 
--- ---- the command that there is
+-- what an absence says, says more
+pub none_on : {X : Type 0} (P Q : Type 0) (r : Option X) → (P → Q) → IfNone r P → IfNone r Q
+none_on P Q None f h = f h
+none_on P Q (Some x) f h = tt
 
-pub is_command : (command : held.Command) → (names : CheckWords) × (command ≡ held_command.Check names)
-is_command (held_command.Check names) = (names, refl)
+-- ---- words are one command at most
+
+-- the command of four words
+of_words : List ℕ → List ℕ → List ℕ → List ℕ → Option Command
+of_words w a b c = if bytes_eq w (codes "check") then Some (check a b c) else if bytes_eq w (codes "explain") then Some (explain a b c) else None
+
+command_in : List (List ℕ) → Option Command
+command_in (w ∷ a ∷ b ∷ c ∷ []) = of_words w a b c
+command_in _ = None
+
+command_is : (c : Command) → command_in (words_of c) ≡ Some c
+unfolding command_in of_words
+command_is (check p s t) = refl
+command_is (explain s h m) = refl
+
+some_same : {A : Type 0} (x y : A) → Some x ≡ Some y → x ≡ y
+some_same x y e = cc
+
+pub one_command : (words : List (List ℕ)) (c d : Command) → Asks words c → Asks words d → c ≡ d
+one_command words c d h k = some_same c d (sym (command_is c) ∙ ap command_in (sym h.words_are ∙ k.words_are) ∙ command_is d)

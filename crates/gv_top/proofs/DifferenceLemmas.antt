@@ -1,12 +1,12 @@
 -- The first operation whose Sums differ is one.
-use Rattle.std.proofs.Common.{◌≡◌, ℕ, zero, suc, ◌+◌, ◌<◌, ◌≤◌, List, [], ◌∷◌, ◌++◌, length, get_or, Some, refl, sym, ap, ◌∙◌, arith}
+use Rattle.std.proofs.Common.{◌≡◌, ℕ, zero, suc, ◌<◌, List, [], ◌∷◌, ◌++◌, length, get_or, Some, refl, sym, ap, ◌∙◌, arith}
 use Rattle.std.specs.Prelude.{map, slice_get}
 use Rattle.std.proofs.lemmas.Grind.{common_steps}
 use Rattle.gv_base.specs.declared.answers.Place.{Place}
 use Rattle.gv_base.specs.declared.small.Small.{Small}
 use Rattle.gv_base.specs.declared.small.SmallOp.{SmallOp}
 use Rattle.gv_top.specs.Check.{Compares}
-use Rattle.gv_top.specs.Comparing.{SameSum, AllSameSums, IsFirstDifference}
+use Rattle.gv_top.specs.Comparing.{AllSameSums, IsFirstDifference}
 use Rattle.gv_top.specs.declared.check.Verdict.{Verdict}
 use Rattle.gv_top.specs.declared.check.Verdict.TheVariants.{Unjustified, AcceptedWithoutCrash}
 use Rattle.gv_top.specs.declared.small_script.SmallBlock.{SmallBlock}

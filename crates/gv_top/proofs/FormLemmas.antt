@@ -1,6 +1,8 @@
 -- A text of a form whose operations are not the package's.
-use Rattle.std.proofs.Common.{◌≡◌, ℕ, Bool, true, false, List, Result, Ok, Err, refl, sym, ap, subst, ◌∙◌}
-use Rattle.std.specs.Prelude.{map, IsTrue, ◌↔◌, IsErrAnd, IfOk, IfErr}
+use Rattle.std.proofs.Common.{◌≡◌, ℕ, Bool, false, List, Result, Ok, Err, refl, sym, ap, subst, ◌∙◌}
+use Rattle.std.specs.Prelude.{map, All, Vec, IsTrue, ◌↔◌, IsErrAnd, IfOk, IfErr}
+use Rattle.std.specs.declared.alloc.Global.{Global}
+use Rattle.gv_base.specs.declared.answers.Code.{Code}
 use Rattle.gv_base.specs.declared.answers.Refusal.{Refusal}
 use Rattle.gv_base.specs.declared.answers.Refusal.TheVariants as refusal
 use Rattle.gv_base.specs.declared.small.Small.{Small}
@@ -9,7 +11,8 @@ use Rattle.gv_small.specs.Reading.{IsReadAs, IsStartRefusal, start_refusal}
 use Rattle.gv_small.proofs.Cuts.{false_true}
 use Rattle.gv_spec.specs.Small.{SameInterface}
 use Rattle.gv_top.specs.Files.{IsReadIn}
-use Rattle.gv_top.specs.Forms.{small_form}
+use Rattle.gv_top.specs.Forms.{small_form, placed_form}
+use Rattle.gv_text.specs.Answers.{Refuses}
 use Rattle.gv_top.specs.declared.small_script.SmallBlock.{SmallBlock}
 use Rattle.gv_top.specs.declared.small_script.SmallScript.{SmallScript}
 use Rattle.gv_top.proofs.FilesLemmas.{err_is}
@@ -50,3 +53,18 @@ module _ {A : Type 0} (Spells : List ℕ → A → Type 0) (text : List ℕ) whe
 
   pub handed_on : (r : Result A Refusal) (e : Refusal) → IsErrAnd r (λ x. x ≡ e) → IsReadIn (small_form Spells) text (Err e) → IsReadIn (small_form Spells) text r
   handed_on r e h k = subst (λ (x : Result A Refusal). IsReadIn (small_form Spells) text x) (sym (err_is r e h)) k
+
+-- ---- texts that are refused at a byte
+
+pub reads_placed : {A : Type 0} (Spells : List ℕ → A → Type 0) (Refusing : List ℕ → ℕ → Code → Type 0) (text : List ℕ) (r : Result A Refusal) → IfOk r (Spells text) → IfErr r (Refuses text (Refusing text))
+    → IsReadIn (placed_form Spells Refusing) text r
+reads_placed Spells Refusing text (Ok x) read refused = read
+reads_placed Spells Refusing text (Err refusal.NoMemory) read refused = tt
+reads_placed Spells Refusing text (Err (refusal.At place code)) read refused = refused
+
+-- a reader of lines tells items that are so each
+pub reads_lines : {A : Type 0} (Spells : List ℕ → List A → Type 0) (Refusing : List ℕ → ℕ → Code → Type 0) (P : A → Type 0) (text : List ℕ) (r : Result (Vec A Global) Refusal) → IfOk r (λ v. Spells text v.items)
+    → IfOk r (λ v. All P v.items) → IfErr r (Refuses text (Refusing text)) → IsReadIn (placed_form (λ (t : List ℕ) (v : Vec A Global). Spells t v.items × All P v.items) Refusing) text r
+reads_lines Spells Refusing P text (Ok v) found each refused = (found, each)
+reads_lines Spells Refusing P text (Err refusal.NoMemory) found each refused = tt
+reads_lines Spells Refusing P text (Err (refusal.At place code)) found each refused = refused

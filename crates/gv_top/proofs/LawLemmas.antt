@@ -1,6 +1,5 @@
 -- A text spells at most one value.
-use Rattle.std.proofs.Common.{◌≡◌, ℕ, true, false, List, Some, refl, sym, ◌∙◌}
-use Rattle.gv_base.specs.declared.small.Small.{Small}
+use Rattle.std.proofs.Common.{◌≡◌, true, false, Some, refl, sym, ◌∙◌}
 use Rattle.gv_small.specs.Tokens.{tokens_of}
 use Rattle.gv_gotree.specs.SmallPackage.{IsSmallPackage}
 use Rattle.gv_gotree.proofs.PackageLemmas as packages
@@ -8,7 +7,6 @@ use Rattle.gv_spec.specs.SmallSpec.{IsSmallSpec}
 use Rattle.gv_spec.proofs.SpecLemmas as specs
 use Rattle.gv_top.specs.Laws.{SpellsOne}
 use Rattle.gv_top.specs.SmallScript.{IsSmallScript}
-use Rattle.gv_top.specs.declared.small_script.SmallScript.{SmallScript}
 use Rattle.gv_top.proofs.ScriptLemmas as scripts
 
 some_same : {A : Type 0} (x y : A) → Some x ≡ Some y → x ≡ y

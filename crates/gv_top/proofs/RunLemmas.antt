@@ -1,31 +1,39 @@
--- What a status tells, and what acceptance promises.
-use Rattle.std.proofs.Common.{◌≡◌, ◌≢◌, ℕ, ◌<◌, ◌≤◌, List, Option, Result, Ok, Err, refl, sym, ap, subst, ◌∙◌, ◌⊎◌, inl, inr, arith}
-use Rattle.gv_base.specs.declared.answers.Code.{Code}
-use Rattle.gv_base.specs.declared.answers.Place.{Place}
+-- What a status tells, and what an answer promises.
+use Rattle.std.proofs.Common.{◌≡◌, ◌≢◌, ℕ, ◌<◌, ◌≤◌, List, Result, Ok, Err, refl, sym, ap, subst, ◌∙◌, ◌⊎◌, inl, inr, arith}
+use Rattle.std.specs.Prelude.{◌↔◌}
 use Rattle.gv_base.specs.Outside.{Told}
 use Rattle.gv_base.specs.declared.small.Small.{Small}
-use Rattle.gv_small.specs.Tokens.{start}
-use Rattle.gv_spec.proofs.SmallRuns.{small_refines_without_crash}
-use Rattle.gv_report.specs.declared.cause.Cause.{Cause}
-use Rattle.gv_report.specs.declared.cause.Cause.TheVariants.{NoAtom}
+use Rattle.gv_spec.specs.Small.{AgreeOps}
+use Rattle.gv_smallprogram.specs.Program.{nothing_kept}
+use Rattle.gv_smallprogram.specs.Laws.{ProgramRefines}
+use Rattle.gv_smallprogram.proofs.Runs.{programs_refine}
+use Rattle.gv_smallprogram.proofs.Sound.{packages_are_sound}
+use Rattle.gv_spec.specs.History.{IsExplanation, walked}
+use Rattle.gv_history.specs.declared.fault.WalkCause.{WalkCause}
+use Rattle.gv_history.specs.Fault.{cause_of}
 use Rattle.gv_report.specs.declared.report.Report.{Report}
-use Rattle.gv_report.specs.declared.report.Report.TheVariants.{Usage, OutOfMemory, CannotRead, Refused, Unjustified, AcceptedWithoutCrash}
+use Rattle.gv_report.specs.declared.report.Report.TheVariants.{Usage, OutOfMemory, CannotRead, Refused, Unjustified, AcceptedWithoutCrash, Explained, NotExplained}
 use Rattle.gv_report.specs.Report.{status_of, text_of, IsAnswerTo}
 use Rattle.gv_report.specs.Heard as sink
-use Rattle.gv_report.specs.Heard.{Heard, Tells, whole, cut}
+use Rattle.gv_report.specs.Heard.{Heard, Tells, whole, cut, IsWritten}
 use Rattle.gv_top.specs.declared.check.Verdict.{Verdict}
 use Rattle.gv_top.specs.declared.check.Verdict.TheVariants as verdict
+use Rattle.gv_top.specs.declared.explain.Explanation.{Explanation}
+use Rattle.gv_top.specs.declared.explain.Explanation.TheVariants as explanation
 use Rattle.gv_top.specs.declared.files.Halt.{Halt}
-use Rattle.gv_top.specs.declared.small_script.SmallScript.{SmallScript}
 use Rattle.gv_top.specs.declared.files.Halt.TheVariants as halt
-use Rattle.gv_top.specs.Check.{Checks, Compares, report_of}
-use Rattle.gv_top.specs.Commands.{Command, check, Asks, IsNoCommand, Comes, reported}
-use Rattle.gv_top.specs.Comparing.{AllSameSums}
-use Rattle.gv_top.specs.Files.{Asked, Source, Reads, Ends, outside}
-use Rattle.gv_top.specs.Forms.{specs, specs_for}
-use Rattle.gv_top.specs.Promise.{Promise}
-use Rattle.gv_top.specs.Run.{Gives, usage, done, Deserves, Answers, IsCutOff, IsBlamedIn}
-use Rattle.gv_top.proofs.OutcomeLemmas.{accepted_of, unjustified_of, refused_of, never_usage, refusal_of}
+use Rattle.gv_top.specs.Check.{Checks, Compares, report_of as check_report}
+use Rattle.gv_top.specs.Explain as explaining
+use Rattle.gv_top.specs.Explain.{Explains, report_of as explain_report}
+use Rattle.gv_top.specs.Commands.{Command, check, explain, Asks, IsNoCommand, Comes, reported}
+use Rattle.gv_top.specs.Files.{Asked, Source, Reads, Ends, Finishes, outside}
+use Rattle.gv_top.specs.Forms.{packages, specs, specs_for, scripts_for, written_specs, histories_of, moves_of}
+use Rattle.gv_top.specs.Promise.{AcceptedPromise, ExplainedPromise}
+use Rattle.gv_top.specs.Run.{Gives, usage, done, Deserves, Answers, IsCutOff}
+use Rattle.gv_top.proofs.CheckExact as checking
+use Rattle.gv_top.proofs.CommandLemmas.{one_command}
+use Rattle.gv_top.proofs.ExplainExact as explanations
+use Rattle.gv_top.proofs.OutcomeLemmas.{check_own, explain_own, never_usage, came, accepted_of, explained_never_accepts, then_read}
 
 -- ---- acceptance
 
@@ -33,21 +41,22 @@ use Rattle.gv_top.proofs.OutcomeLemmas.{accepted_of, unjustified_of, refused_of,
 is_spec : (source : Source) (program small : Small) (name : List ℕ) → Reads source (specs_for program) name small → Reads source specs name small
 is_spec source program small name r = record { bytes = r.bytes; given = r.given; fits = r.fits; spelled = r.spelled.0 }
 
-same_sums : (program small : Small) (script : SmallScript) (o : Result Verdict Halt) → o ≡ Ok verdict.AcceptedWithoutCrash → Ends (Compares program small script) o → AllSameSums program.ops small.ops
-same_sums program small script (Ok (verdict.Unjustified place why)) e c = absurd cc
-same_sums program small script (Ok verdict.AcceptedWithoutCrash) e c = c
-same_sums program small script (Err h) e c = absurd c
+-- where a command comes to an outcome of its own, it is so
+end_is : {O : Type 0} (Outcome : O → Type 0) (v : O) (o : Result O Halt) → o ≡ Ok v → Ends Outcome o → Outcome v
+end_is Outcome v o e c = subst (λ (r : Result _ Halt). Ends Outcome r) e c
 
-no_halt : (o : Result Verdict Halt) (h : Halt) → o ≡ Ok verdict.AcceptedWithoutCrash → o ≡ Err h → ⊥
-no_halt o h e f = cc
+finish_is : {O : Type 0} (Outcome : O → Type 0) (v : O) (o : Result O Halt) → o ≡ Ok v → Finishes Outcome o → Outcome v
+finish_is Outcome v o e c = subst (λ (r : Result _ Halt). Finishes Outcome r) e c
 
 module _ (words : List (List ℕ)) (held : List ℕ → Told) (p s t : List ℕ) (asks : Asks words (check p s t)) where
-  kept : (o : Result Verdict Halt) → o ≡ Ok verdict.AcceptedWithoutCrash → Checks (outside held) p s t o → Promise words held
-  kept o e (inl (h, f, k)) = absurd (no_halt o h e f)
-  kept o e (inr (program, reads, inl (h, f, k))) = absurd (no_halt o h e f)
-  kept o e (inr (program, reads, inr (small, spec_reads, inl (h, f, k)))) = absurd (no_halt o h e f)
-  kept o e (inr (program, reads, inr (small, spec_reads, inr (script, script_reads, c)))) =
-      let same = same_sums program small script o e c in
+  accepting : (o : Result Verdict Halt) → o ≡ Ok verdict.AcceptedWithoutCrash → Checks (outside held) p s t o → AcceptedPromise words held
+  accepting o e h =
+      then_read (outside held) packages p (checking.First (outside held) s t) o verdict.AcceptedWithoutCrash e h (λ program reads h.
+      then_read (outside held) (specs_for program) s (checking.Next (outside held) t program) o verdict.AcceptedWithoutCrash e h (λ small spec_reads h.
+      then_read (outside held) (scripts_for program) t (checking.Last program small) o verdict.AcceptedWithoutCrash e h (λ script script_reads c.
+      let same = end_is (Compares program small script) verdict.AcceptedWithoutCrash o e c in
+      let agree : AgreeOps program small = record { interface = spec_reads.spelled.1; sums = record { firsts = same.0; rests = same.1 } } in
+      let all : ProgramRefines nothing_kept program small = programs_refine nothing_kept program small refl (packages_are_sound reads.bytes program reads.spelled.small_form) agree in
       record {
         package_name = p;
         spec_name = s;
@@ -58,23 +67,83 @@ module _ (words : List (List ℕ)) (held : List ℕ → Told) (p s t : List ℕ)
         atomic = small;
         is_spec = is_spec (outside held) program small s spec_reads;
         interface = spec_reads.spelled.1;
-        refines = small_refines_without_crash program small (record { interface = spec_reads.spelled.1; sums = record { firsts = same.0; rests = same.1 } });
-      }
+        refines = all.without_crash;
+      })))
 
-comes_kept : (words : List (List ℕ)) (held : List ℕ → Told) (c : Command) (r : Report) → r ≡ AcceptedWithoutCrash → Asks words c → Comes (outside held) c r → Promise words held
-comes_kept words held (check p s t) r e asks (o, checks, is) = kept words held p s t asks o (accepted_of o (sym e ∙ is)) checks
+comes_accepting : (words : List (List ℕ)) (held : List ℕ → Told) (c : Command) (r : Report) → r ≡ AcceptedWithoutCrash → Asks words c → Comes (outside held) c r → AcceptedPromise words held
+comes_accepting words held (check p s t) r e asks (o, checks, is) = accepting words held p s t asks o (accepted_of o (sym e ∙ is)) checks
+comes_accepting words held (explain s h m) r e asks (o, explains, is) = absurd (explained_never_accepts o (sym e ∙ is))
 
-pub promised : (words : List (List ℕ)) (a : Asked) (r : Report) → r ≡ AcceptedWithoutCrash → Deserves words a r → Promise words a.held
+pub promised : (words : List (List ℕ)) (a : Asked) (r : Report) → r ≡ AcceptedWithoutCrash → Deserves words a r → AcceptedPromise words a.held
 promised words a r e d = go r e d.given
   where
-    go : (r : Report) → r ≡ AcceptedWithoutCrash → Gives (outside a.held) words r → Promise words a.held
+    go : (r : Report) → r ≡ AcceptedWithoutCrash → Gives (outside a.held) words r → AcceptedPromise words a.held
     go r e (usage h) = absurd cc
-    go r e (done c asks comes) = comes_kept words a.held c r e asks comes
+    go r e (done c asks comes) = comes_accepting words a.held c r e asks comes
+
+-- what comes of words that are this command
+comes_of : (words : List (List ℕ)) (source : Source) (c : Command) (r : Report) → Asks words c → Gives source words r → Comes source c r
+comes_of words source c r asks (usage n) = absurd (n c asks)
+comes_of words source c r asks (done d others comes) = subst (λ (x : Command). Comes source x r) (one_command words d c others asks) comes
+
+-- the verdict with status 0
+is_accepted : (o : Result Verdict Halt) → status_of (reported check_report o) ≡ 0 → reported check_report o ≡ AcceptedWithoutCrash
+is_accepted (Ok (verdict.Unjustified place why)) e = absurd (omega (arith, e))
+is_accepted (Ok verdict.AcceptedWithoutCrash) e = refl
+is_accepted (Err halt.NoMemory) e = absurd (omega (arith, e))
+is_accepted (Err (halt.CannotRead name)) e = absurd (omega (arith, e))
+is_accepted (Err (halt.Refused name place code)) e = absurd (omega (arith, e))
+
+pub ended_accepting : (words : List (List ℕ)) (a : Asked) (r : Report) (p s t : List ℕ) → Asks words (check p s t) → status_of r ≡ 0 → Deserves words a r → AcceptedPromise words a.held
+ended_accepting words a r p s t asks e d = go (comes_of words (outside a.held) (check p s t) r asks d.given)
+  where
+    go : Comes (outside a.held) (check p s t) r → AcceptedPromise words a.held
+    go (o, checks, is) = promised words a r (is ∙ is_accepted o (sym (ap status_of is) ∙ e)) d
+
+-- ---- explanations
+
+module _ (held : List ℕ → Told) (heard : Heard) (s h m : List ℕ) where
+  -- the answer beside what the walk tells
+  abbrev IsRight : Explanation → (IsExplains : Type 0) → (ℕ → WalkCause → Type 0) → Type 0
+  IsRight e IsExplains IsFault = (status_of (explain_report e) ≡ 0 ↔ IsExplains) × (status_of (explain_report e) ≡ 1 → (at : ℕ) × (cause : WalkCause) × IsWritten heard (text_of (NotExplained at cause)) × IsFault at cause)
+
+  right : (x : _) (history : _) (moves : _) (e : Explanation) → IsWritten heard (text_of (explain_report e)) → explaining.Tells x history moves e
+      → IsRight e (IsExplanation x moves history) (λ at cause. walked x history moves ≡ Err (record { index = at; cause = cause_of cause }))
+  right x history moves explanation.Explained w tells = ((λ z. tells, λ k. refl), λ z. absurd (omega (arith, z)))
+  right x history moves (explanation.NotExplained at cause) w tells = ((λ z. absurd (omega (arith, z)), λ k. absurd (tells.0 k)), λ z. (at, cause, w, tells.1))
+
+  explaining_so : (o : Result Explanation Halt) (r : Report) → r ≡ reported explain_report o → status_of r ≤ 1 → IsWritten heard (text_of r) → Explains (outside held) s h m o → ExplainedPromise held heard (status_of r) s h m
+  explaining_so o r is l w explains =
+      came explain_report explain_own o (subst (λ (x : Report). status_of x ≤ 1) is l) (λ e e_is.
+      then_read (outside held) written_specs s (explanations.First (outside held) h m) o e e_is explains (λ x spec_reads next.
+      then_read (outside held) (histories_of x) h (explanations.Next (outside held) m x) o e e_is next (λ history history_reads last.
+      then_read (outside held) (moves_of x) m (explanations.Last x history.items) o e e_is last (λ moves moves_read c.
+      let told = finish_is (explaining.Tells x history.items moves.items) e o e_is c in
+      let r_is : r ≡ explain_report e = is ∙ ap (reported explain_report) e_is in
+      let answer = right x history.items moves.items e (subst (λ (y : Report). IsWritten heard (text_of y)) r_is w) told in
+      subst (λ (y : Report). ExplainedPromise held heard (status_of y) s h m) (sym r_is) (record {
+        atomic = x;
+        is_spec = spec_reads;
+        history = history;
+        is_history = history_reads;
+        moves = moves;
+        are_moves = moves_read;
+        explains = answer.0;
+        fault = answer.1;
+      })))))
+
+pub explained : (words : List (List ℕ)) (a : Asked) (heard : Heard) (r : Report) (status : ℕ) → Deserves words a r → Tells r heard status → (s h m : List ℕ) → Asks words (explain s h m) → status ≤ 1 → ExplainedPromise a.held heard status s h m
+explained words a heard r status d (cut o w) s h m asks l = absurd (omega (arith, l))
+explained words a heard r status d (whole w f) s h m asks l = go (comes_of words (outside a.held) (explain s h m) r asks d.given)
+  where
+    go : Comes (outside a.held) (explain s h m) r → ExplainedPromise a.held heard (status_of r) s h m
+    go (o, explains, is) = explaining_so a.held heard s h m o r is l w explains
 
 -- ---- want of memory
 
 memory_free : (source : Source) (c : Command) → Comes source c OutOfMemory
 memory_free source (check p s t) = (Err halt.NoMemory, inl (halt.NoMemory, refl, tt), refl)
+memory_free source (explain s h m) = (Err halt.NoMemory, inl (halt.NoMemory, refl, tt), refl)
 
 memory_given : (source : Source) (words : List (List ℕ)) (r : Report) → r ≢ Usage → Gives source words r → Gives source words OutOfMemory
 memory_given source words r n (usage h) = absurd (n refl)
@@ -84,39 +153,15 @@ pub answered : (words : List (List ℕ)) (a : Asked) (r q : Report) → Deserves
 answered words a r q d (inl e) = subst (λ (x : Report). Deserves words a x) (sym e) d
 answered words a r q d (inr (e, n)) = subst (λ (x : Report). Deserves words a x) (sym e) (record { given = memory_given (outside a.held) words r n d.given; blamed = tt })
 
--- ---- causes, places and usage
-
-why_of : (program small : Small) (script : SmallScript) (place : Place) (why : Cause) (o : Result Verdict Halt) → o ≡ Ok (verdict.Unjustified place why) → Ends (Compares program small script) o → why ≡ NoAtom
-why_of program small script place why (Ok (verdict.Unjustified q c)) e k = let same : why ≡ c = cc in same ∙ k.0
-why_of program small script place why (Ok verdict.AcceptedWithoutCrash) e k = absurd cc
-why_of program small script place why (Err h) e k = absurd k
-
-check_why : (source : Source) (p s t : List ℕ) (place : Place) (why : Cause) (o : Result Verdict Halt) → o ≡ Ok (verdict.Unjustified place why) → Checks source p s t o → why ≡ NoAtom
-check_why source p s t place why o e (inl (h, f, k)) = absurd cc
-check_why source p s t place why o e (inr (program, reads, inl (h, f, k))) = absurd cc
-check_why source p s t place why o e (inr (program, reads, inr (small, spec_reads, inl (h, f, k)))) = absurd cc
-check_why source p s t place why o e (inr (program, reads, inr (small, spec_reads, inr (script, script_reads, c)))) = why_of program small script place why o e c
-
-comes_why : (source : Source) (place : Place) (why : Cause) (c : Command) (r : Report) → r ≡ Unjustified place why → Comes source c r → why ≡ NoAtom
-comes_why source place why (check p s t) r e (o, checks, is) = check_why source p s t place why o (unjustified_of place why o (sym e ∙ is)) checks
-
-cause_of : (words : List (List ℕ)) (a : Asked) (place : Place) (why : Cause) (r : Report) → r ≡ Unjustified place why → Gives (outside a.held) words r → why ≡ NoAtom
-cause_of words a place why r e (usage h) = absurd cc
-cause_of words a place why r e (done c asks comes) = comes_why (outside a.held) place why c r e comes
-
-comes_at : (source : Source) (name : List ℕ) (place : Place) (code : Code) (c : Command) (r : Report) → r ≡ Refused name place code → Comes source c r → place ≡ start
-comes_at source name place code (check p s t) r e (o, checks, is) = let x = refusal_of source p s t name place code o (refused_of name place code o (sym e ∙ is)) checks in x.place_is
-
-place_of : (words : List (List ℕ)) (a : Asked) (name : List ℕ) (place : Place) (code : Code) (r : Report) → r ≡ Refused name place code → Gives (outside a.held) words r → place ≡ start
-place_of words a name place code r e (usage h) = absurd cc
-place_of words a name place code r e (done c asks comes) = comes_at (outside a.held) name place code c r e comes
+-- ---- usage
 
 usage_of : (words : List (List ℕ)) (source : Source) (r : Report) → IsNoCommand words → Gives source words r → r ≡ Usage
 usage_of words source r n (usage h) = refl
 usage_of words source r n (done c asks comes) = absurd (n c asks)
 
 comes_usage : (source : Source) (c : Command) (r : Report) → r ≡ Usage → Comes source c r → ⊥
-comes_usage source (check p s t) r e (o, checks, is) = never_usage o (sym e ∙ is)
+comes_usage source (check p s t) r e (o, checks, is) = never_usage check_report check_own o (sym e ∙ is)
+comes_usage source (explain s h m) r e (o, explains, is) = never_usage explain_report explain_own o (sym e ∙ is)
 
 only_usage : (words : List (List ℕ)) (source : Source) (r : Report) → r ≡ Usage → Gives source words r → IsNoCommand words
 only_usage words source r e (usage h) = h
@@ -124,141 +169,51 @@ only_usage words source r e (done c asks comes) = absurd (comes_usage source c r
 
 -- ---- statuses
 
-six : (r : Report) → status_of r ≤ 5
-six AcceptedWithoutCrash = omega arith
-six (Unjustified place why) = omega arith
-six Usage = omega arith
-six (CannotRead name) = omega arith
-six (Refused name place code) = omega arith
-six OutOfMemory = omega arith
+at_most_five : (r : Report) → status_of r ≤ 5
+at_most_five AcceptedWithoutCrash = omega arith
+at_most_five (Unjustified place why) = omega arith
+at_most_five Explained = omega arith
+at_most_five (NotExplained at why) = omega arith
+at_most_five Usage = omega arith
+at_most_five (CannotRead name) = omega arith
+at_most_five (Refused name place code) = omega arith
+at_most_five OutOfMemory = omega arith
 
--- the report with a status below 6
-record IsOf (words : List (List ℕ)) (a : Asked) (h : Heard) (status : ℕ) : Type 0 where
-  pub report : Report
-  pub is : status_of report ≡ status
-  pub answers : Answers words a h report
-  pub calm : sink.NoneFailed h
+is_usage : (r : Report) → status_of r ≡ 2 → r ≡ Usage
+is_usage AcceptedWithoutCrash e = absurd (omega (arith, e))
+is_usage (Unjustified place why) e = absurd (omega (arith, e))
+is_usage Explained e = absurd (omega (arith, e))
+is_usage (NotExplained at why) e = absurd (omega (arith, e))
+is_usage Usage e = refl
+is_usage (CannotRead name) e = absurd (omega (arith, e))
+is_usage (Refused name place code) e = absurd (omega (arith, e))
+is_usage OutOfMemory e = absurd (omega (arith, e))
 
-module _ (words : List (List ℕ)) (a : Asked) (h : Heard) (r : Report) (status : ℕ) (d : Deserves words a r) (t : Tells r h status) where
-  -- all of the report was written, or a put failed
-  split : IsOf words a h status ⊎ ((status ≡ 6) × IsCutOff words a h)
-  split = go status t
-    where
-      go : (status : ℕ) → Tells r h status → IsOf words a h status ⊎ ((status ≡ 6) × IsCutOff words a h)
-      go status (whole w f) = inl (record { report = r; is = refl; answers = (d, w); calm = f })
-      go status (cut o w) = inr (refl, record { report = r; deserved = d; fault = o; written = w })
+module _ (words : List (List ℕ)) (a : Asked) (h : Heard) (r : Report) (d : Deserves words a r) where
+  pub told : (status : ℕ) → Tells r h status → status ≤ 5 → (q : Report) × (status_of q ≡ status) × Answers words a h q
+  told status (whole w f) l = (r, refl, (d, w))
+  told status (cut o w) l = absurd (omega (arith, l))
 
-  below_six : (n : ℕ) → status ≡ n → n ≤ 5 → IsOf words a h n
-  below_six n e l = go split
-    where
-      go : IsOf words a h status ⊎ ((status ≡ 6) × IsCutOff words a h) → IsOf words a h n
-      go (inl x) = subst (λ k. IsOf words a h k) e x
-      go (inr x) = let clash : n ≡ 6 = sym e ∙ x.0 in absurd (omega (arith, clash, l))
+  pub calm : (status : ℕ) → Tells r h status → status ≤ 5 → sink.NoneFailed h
+  calm status (whole w f) l = f
+  calm status (cut o w) l = absurd (omega (arith, l))
 
-  pub calm : status ≤ 5 → sink.NoneFailed h
-  calm l = go split
-    where
-      go : IsOf words a h status ⊎ ((status ≡ 6) × IsCutOff words a h) → sink.NoneFailed h
-      go (inl x) = x.calm
-      go (inr x) = let e = x.0 in absurd (omega (arith, e, l))
+  pub cut_off : (status : ℕ) → Tells r h status → status ≡ 6 → IsCutOff words a h
+  cut_off status (whole w f) e = absurd (omega (arith, e, at_most_five r))
+  cut_off status (cut o w) e = record { report = r; deserved = d; fault = o; written = w }
 
-  pub cut_off : status ≡ 6 → IsCutOff words a h
-  cut_off e = go split
-    where
-      go : IsOf words a h status ⊎ ((status ≡ 6) × IsCutOff words a h) → IsCutOff words a h
-      go (inl x) = let k = six x.report in let q = x.is in absurd (omega (arith, k, q, e))
-      go (inr x) = x.1
+  pub always_cut_off : (status : ℕ) → Tells r h status → h.faults_before < h.faults_now → status ≡ 6
+  always_cut_off status (whole w f) l = absurd (omega (arith, f, l))
+  always_cut_off status (cut o w) l = refl
 
-  pub always_cut_off : h.faults_before < h.faults_now → status ≡ 6
-  always_cut_off l = go split
-    where
-      go : IsOf words a h status ⊎ ((status ≡ 6) × IsCutOff words a h) → status ≡ 6
-      go (inl x) = let c = x.calm in absurd (omega (arith, c, l))
-      go (inr x) = x.0
+  pub known : (status : ℕ) → Tells r h status → status ≤ 6
+  known status (whole w f) = omega (arith, at_most_five r)
+  known status (cut o w) = omega arith
 
-  pub known : status ≤ 6
-  known = go split
-    where
-      go : IsOf words a h status ⊎ ((status ≡ 6) × IsCutOff words a h) → status ≤ 6
-      go (inl x) = let k = six x.report in let q = x.is in omega (arith, k, q)
-      go (inr x) = let e = x.0 in omega (arith, e)
+  pub usage_only : (status : ℕ) → Tells r h status → status ≡ 2 → IsNoCommand words
+  usage_only status (whole w f) e = only_usage words (outside a.held) r (is_usage r e) d.given
+  usage_only status (cut o w) e = absurd (omega (arith, e))
 
-  -- ---- one status after the other
-
-  pub accepted : status ≡ 0 → Answers words a h AcceptedWithoutCrash
-  accepted e = let x = below_six 0 e (omega arith) in go x.report x.is x.answers
-    where
-      go : (q : Report) → status_of q ≡ 0 → Answers words a h q → Answers words a h AcceptedWithoutCrash
-      go AcceptedWithoutCrash f k = k
-      go (Unjustified place why) f k = absurd (omega (arith, f))
-      go Usage f k = absurd (omega (arith, f))
-      go (CannotRead name) f k = absurd (omega (arith, f))
-      go (Refused name place code) f k = absurd (omega (arith, f))
-      go OutOfMemory f k = absurd (omega (arith, f))
-
-  pub usage_line : status ≡ 2 → Answers words a h Usage
-  usage_line e = let x = below_six 2 e (omega arith) in go x.report x.is x.answers
-    where
-      go : (q : Report) → status_of q ≡ 2 → Answers words a h q → Answers words a h Usage
-      go AcceptedWithoutCrash f k = absurd (omega (arith, f))
-      go (Unjustified place why) f k = absurd (omega (arith, f))
-      go Usage f k = k
-      go (CannotRead name) f k = absurd (omega (arith, f))
-      go (Refused name place code) f k = absurd (omega (arith, f))
-      go OutOfMemory f k = absurd (omega (arith, f))
-
-  pub memory : status ≡ 5 → Answers words a h OutOfMemory
-  memory e = let x = below_six 5 e (omega arith) in go x.report x.is x.answers
-    where
-      go : (q : Report) → status_of q ≡ 5 → Answers words a h q → Answers words a h OutOfMemory
-      go AcceptedWithoutCrash f k = absurd (omega (arith, f))
-      go (Unjustified place why) f k = absurd (omega (arith, f))
-      go Usage f k = absurd (omega (arith, f))
-      go (CannotRead name) f k = absurd (omega (arith, f))
-      go (Refused name place code) f k = absurd (omega (arith, f))
-      go OutOfMemory f k = k
-
-  pub unread : status ≡ 3 → (name : List ℕ) × Answers words a h (CannotRead name)
-  unread e = let x = below_six 3 e (omega arith) in go x.report x.is x.answers
-    where
-      go : (q : Report) → status_of q ≡ 3 → Answers words a h q → (name : List ℕ) × Answers words a h (CannotRead name)
-      go AcceptedWithoutCrash f k = absurd (omega (arith, f))
-      go (Unjustified place why) f k = absurd (omega (arith, f))
-      go Usage f k = absurd (omega (arith, f))
-      go (CannotRead name) f k = (name, k)
-      go (Refused name place code) f k = absurd (omega (arith, f))
-      go OutOfMemory f k = absurd (omega (arith, f))
-
-  pub unjustified : status ≡ 1 → (place : Place) × Answers words a h (Unjustified place NoAtom)
-  unjustified e = let x = below_six 1 e (omega arith) in go x.report x.is x.answers
-    where
-      go : (q : Report) → status_of q ≡ 1 → Answers words a h q → (place : Place) × Answers words a h (Unjustified place NoAtom)
-      go AcceptedWithoutCrash f k = absurd (omega (arith, f))
-      go (Unjustified place why) f k = (place, subst (λ c. Answers words a h (Unjustified place c)) (cause_of words a place why (Unjustified place why) refl k.0.given) k)
-      go Usage f k = absurd (omega (arith, f))
-      go (CannotRead name) f k = absurd (omega (arith, f))
-      go (Refused name place code) f k = absurd (omega (arith, f))
-      go OutOfMemory f k = absurd (omega (arith, f))
-
-  pub refused : status ≡ 4 → (name : List ℕ) × (code : Code) × Answers words a h (Refused name start code)
-  refused e = let x = below_six 4 e (omega arith) in go x.report x.is x.answers
-    where
-      go : (q : Report) → status_of q ≡ 4 → Answers words a h q → (name : List ℕ) × (code : Code) × Answers words a h (Refused name start code)
-      go AcceptedWithoutCrash f k = absurd (omega (arith, f))
-      go (Unjustified place why) f k = absurd (omega (arith, f))
-      go Usage f k = absurd (omega (arith, f))
-      go (CannotRead name) f k = absurd (omega (arith, f))
-      go (Refused name place code) f k = (name, code, subst (λ q. Answers words a h (Refused name q code)) (place_of words a name place code (Refused name place code) refl k.0.given) k)
-      go OutOfMemory f k = absurd (omega (arith, f))
-
-  -- ---- usage
-
-  pub usage_only : status ≡ 2 → IsNoCommand words
-  usage_only e = let x = usage_line e in only_usage words (outside a.held) Usage refl x.0.given
-
-  pub usage_status : IsNoCommand words → (status ≡ 2) ⊎ (status ≡ 6)
-  usage_status n = go status t
-    where
-      go : (status : ℕ) → Tells r h status → (status ≡ 2) ⊎ (status ≡ 6)
-      go status (whole w f) = inl (ap status_of (usage_of words (outside a.held) r n d.given))
-      go status (cut o w) = inr refl
+  pub usage_status : (status : ℕ) → Tells r h status → IsNoCommand words → (status ≡ 2) ⊎ (status ≡ 6)
+  usage_status status (whole w f) n = inl (ap status_of (usage_of words (outside a.held) r n d.given))
+  usage_status status (cut o w) n = inr refl

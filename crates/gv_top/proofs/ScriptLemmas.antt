@@ -1,6 +1,6 @@
 -- The text of a script of the small form, and its reading from the front.
-use Rattle.std.proofs.Common.{◌≡◌, ℕ, zero, suc, ◌+◌, ◌<◌, ◌≤◌, Bool, true, false, cond, List, [], ◌∷◌, ◌++◌, length, Option, Some, None, refl, sym, ap, subst, ◌∙◌, arith, append_assoc}
-use Rattle.std.specs.Prelude.{option_map, option_and_then, map, codes, not, Result, Ok, Err, IsErrAnd, IfErr, IsTrue, ◌↔◌}
+use Rattle.std.proofs.Common.{◌≡◌, ℕ, ◌<◌, ◌≤◌, Bool, true, false, cond, List, [], ◌∷◌, ◌++◌, length, Option, Some, None, refl, sym, ap, subst, ◌∙◌, arith}
+use Rattle.std.specs.Prelude.{option_map, codes, not, Result, Ok, Err, IsErrAnd, IsTrue, ◌↔◌}
 use Rattle.std.proofs.lemmas.Slice.Eq.{bytes_eq-Decides}
 use Rattle.std.specs.Str.{bytes_eq}
 use Rattle.gv_base.specs.declared.answers.Place.{Place}
@@ -8,7 +8,7 @@ use Rattle.gv_base.specs.declared.answers.Refusal.{Refusal}
 use Rattle.gv_base.specs.declared.answers.Refusal.TheVariants as refusal
 use Rattle.gv_small.specs.Tokens.{Piece, Placed, Token, named, signed, arrowed, plain, cut, kinds, tokens_in, tokens_of}
 use Rattle.gv_small.specs.Forms.{is_operation_name, Many}
-use Rattle.gv_small.specs.Reading.{ReadFrom, is_same, behind_all, behind_placed, word_at, word_placed, word_behind, Refuses, IsReadAs}
+use Rattle.gv_small.specs.Reading.{is_same, behind_all, behind_placed, word_at, word_placed, word_behind, Refuses, IsReadAs}
 use Rattle.gv_small.proofs.Cuts.{cut_cuts, cut_only, false_true}
 use Rattle.gv_small.proofs.Many.{Shrinks, IsFound, IsRead, all_of_found, all_of_read}
 use Rattle.gv_small.proofs.FormLemmas.{then_case, map_case, same_is, is_same_self, first_is, second_is}

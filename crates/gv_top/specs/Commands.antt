@@ -12,6 +12,8 @@ use Rattle.gv_top.specs.declared.files.Halt.{Halt}
 use Rattle.gv_top.specs.declared.files.Halt.TheVariants.{NoMemory, CannotRead, Refused}
 use Rattle.gv_top.specs.Files.{Source}
 use Rattle.gv_top.specs.Check as check_of
+use Rattle.gv_top.specs.declared.explain.Explanation.{Explanation}
+use Rattle.gv_top.specs.Explain as explain_of
 
 -- ---- reports
 
@@ -29,18 +31,27 @@ reported report_of (Err halt) = halt_report halt
 
 pub data Command : Type 0 where
   check : (package_name spec_name script_name : List ℕ) → Command
+  explain : (spec_name history_name moves_name : List ℕ) → Command
 
 abbrev pub words_of : Command → List (List ℕ)
 words_of (check package_name spec_name script_name) = codes "check" ∷ package_name ∷ spec_name ∷ script_name ∷ []
+words_of (explain spec_name history_name moves_name) = codes "explain" ∷ spec_name ∷ history_name ∷ moves_name ∷ []
+
+-- the same for a word and three more
+abbrev pub AreWordsOf : Command → List ℕ → List ℕ → List ℕ → List ℕ → Type 0
+AreWordsOf command word first second third = words_of command ≡ word ∷ first ∷ second ∷ third ∷ []
 
 -- the names of its files, in the order in which they are fetched
 abbrev pub files_of : Command → List (List ℕ)
 files_of (check package_name spec_name script_name) = package_name ∷ spec_name ∷ script_name ∷ []
+files_of (explain spec_name history_name moves_name) = spec_name ∷ history_name ∷ moves_name ∷ []
 
 -- the reports that it may give over what the files give
 abbrev pub Comes : Source → Command → Report → Type 0
 Comes source (check package_name spec_name script_name) r =
     (outcome : Result Verdict Halt) × check_of.Checks source package_name spec_name script_name outcome × (r ≡ reported check_of.report_of outcome)
+Comes source (explain spec_name history_name moves_name) r =
+    (outcome : Result Explanation Halt) × explain_of.Explains source spec_name history_name moves_name outcome × (r ≡ reported explain_of.report_of outcome)
 
 -- ---- words
 
@@ -65,3 +76,4 @@ IsNoCommand words = (command : Command) → Asks words command → ⊥
 -- a command as the program holds it
 abbrev pub named : held.Command → Command
 named (held_command.Check names) = check names.«package».now names.spec.now names.script.now
+named (held_command.Explain names) = explain names.spec.now names.history.now names.moves.now

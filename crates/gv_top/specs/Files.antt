@@ -1,5 +1,5 @@
 -- A file in a form: fetched, tested for its length, and read.
-use Rattle.std.specs.Prelude.{◌≡◌, ℕ, ◌+◌, ◌^◌, ◌<◌, ◌≤◌, ◌⊎◌, List, length, take, Option, Some, None, Result, Ok, Err}
+use Rattle.std.specs.Prelude.{◌≡◌, ℕ, ◌+◌, ◌^◌, ◌<◌, ◌≤◌, ◌⊎◌, List, length, take, Option, Result, Ok, Err}
 use Rattle.gv_base.specs.declared.answers.Place.{Place}
 use Rattle.gv_base.specs.declared.answers.Code.{Code}
 use Rattle.gv_base.specs.declared.answers.Code.TheVariants.{TooLong}
@@ -128,6 +128,13 @@ Then {A} source form name Next outcome =
 abbrev pub Ends : {O : Type 0} → (O → Type 0) → Result O Halt → Type 0
 Ends Outcome (Ok o) = Outcome o
 Ends Outcome (Err halt) = ⊥
+
+-- the same, where memory may run out before it comes to that
+abbrev pub Finishes : {O : Type 0} → (O → Type 0) → Result O Halt → Type 0
+Finishes Outcome (Ok o) = Outcome o
+Finishes Outcome (Err NoMemory) = Unit {0}
+Finishes Outcome (Err (CannotRead name)) = ⊥
+Finishes Outcome (Err (Refused name place code)) = ⊥
 
 -- a fetch failed in between just where the answer says so, and of the name that it says
 abbrev pub IsBlamed : {A : Type 0} → Asked → Result A Halt → Type 0

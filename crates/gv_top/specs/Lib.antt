@@ -1,9 +1,11 @@
 pub mod Check
 pub mod Commands
 pub mod Comparing
+pub mod Explain
 pub mod Files
 pub mod Forms
 pub mod Laws
+pub mod Packages
 pub mod Promise
 pub mod Reading
 pub mod Run

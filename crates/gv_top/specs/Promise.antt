@@ -1,39 +1,50 @@
--- What `run` promises of the package that it accepts.
-use Rattle.std.specs.Prelude.{◌≡◌, ℕ, true, not, ◌==◌, List, ◌++◌, Some, All}
+-- What `run` promises of the files, by the command that its words are.
+use Rattle.std.specs.Prelude.{◌≡◌, ◌↔◌, ◌≤◌, ℕ, true, not, ◌==◌, List, ◌++◌, Some, Err, All, Vec}
 use Rattle.std.specs.List.{list_all}
+use Rattle.std.specs.declared.alloc.Global.{Global}
 use Rattle.gv_base.specs.Outside.{Told}
 use Rattle.gv_base.specs.declared.small.Small.{Small}
-use Rattle.gv_spec.specs.Small.{SameInterface, machine_of, specification_of}
+use Rattle.gv_atomic.specs.declared.spec.Spec.{Spec}
+use Rattle.gv_spec.specs.Small.{SameInterface}
 use Rattle.gv_spec.specs.Refines.{RefinesWithoutCrash}
-use Rattle.gv_report.specs.declared.report.Report.TheVariants.{AcceptedWithoutCrash}
+use Rattle.gv_spec.specs.declared.entry.Entry.{Entry}
+use Rattle.gv_spec.specs.declared.explanation.Move.{Move}
+use Rattle.gv_spec.specs.History.{IsExplanation, walked}
+use Rattle.gv_runs.specs.Machine.{machine_of}
+use Rattle.gv_smallprogram.specs.Program.{program_of}
+use Rattle.gv_smallprogram.specs.Specification.{setting_of, specification_of}
+use Rattle.gv_history.specs.declared.fault.WalkCause.{WalkCause}
+use Rattle.gv_history.specs.Fault.{cause_of}
+use Rattle.gv_report.specs.declared.report.Report.TheVariants.{AcceptedWithoutCrash, NotExplained}
 use Rattle.gv_report.specs.Report.{text_of}
-use Rattle.gv_report.specs.Heard.{Heard}
+use Rattle.gv_report.specs.Heard.{Heard, IsWritten}
 use Rattle.gv_top.specs.Files.{Reads, outside}
-use Rattle.gv_top.specs.Forms.{packages, specs}
-use Rattle.gv_top.specs.Commands.{check, Asks, files_of}
+use Rattle.gv_top.specs.Forms.{packages, specs, written_specs, histories_of, moves_of}
+use Rattle.gv_top.specs.Commands.{check, explain, Asks, files_of}
 
 -- no byte of the name is a newline
 abbrev pub IsOneLine : List ℕ → Type 0
 IsOneLine name = list_all (λ byte. not (byte == 10)) name ≡ true
 
--- THE PREMISE: `run` on these words accepts.
+-- THE PREMISE of `check`: `run` on these words accepts.
 pub data IsAccepted (words : List (List ℕ)) (heard : Heard) (status : ℕ) : Type 0 where
-  -- It ended with status 0.
-  ended : status ≡ 0 → IsAccepted words heard status
+  -- They ask for a check, and it ended with status 0.
+  ended : (package_name spec_name script_name : List ℕ) → Asks words (check package_name spec_name script_name) → status ≡ 0
+      → IsAccepted words heard status
   -- Or it wrote the whole line of acceptance and nothing more, whatever the status is, and the name of no file that the words ask
   -- for holds a newline, so that no other report begins with this line.
   written : (old : List ℕ) → heard.before ≡ Some old → heard.now ≡ Some (old ++ text_of AcceptedWithoutCrash) →
       ((command : _) → Asks words command → All IsOneLine (files_of command)) → IsAccepted words heard status
 
--- THE PROMISE, of what the files held when `run` was called. Of a file of which nothing is told, as of real files, it says by
--- itself only that there are such bytes; that the file has them rests on `fetch`, which alone gives `run` a text.
-pub record Promise (words : List (List ℕ)) (held : List ℕ → Told) : Type 0 where
+-- THE PROMISE of `check`, of what the files held when `run` was called. Of a file of which nothing is told, as of real files, it says
+-- by itself only that there are such bytes; that the file has them rests on `fetch`, which alone gives `run` a text.
+pub record AcceptedPromise (words : List (List ℕ)) (held : List ℕ → Told) : Type 0 where
   -- The words are `check`, and the names of a package, a specification and a script.
   pub package_name : List ℕ
   pub spec_name : List ℕ
   pub script_name : List ℕ
   pub asked : Asks words (check package_name spec_name script_name)
-  -- The bytes held under the first name, where that is told, spell this package of the small form.
+  -- The bytes held under the first name, where that is told, are a package of the grammar, and spell this one of the small form.
   pub program : Small
   pub is_package : Reads (outside held) packages package_name program
   -- The bytes held under the second name, where that is told, spell this specification of the small form. It names the
@@ -44,4 +55,25 @@ pub record Promise (words : List (List ℕ)) (held : List ℕ → Told) : Type 0
   -- For every list of calls, thread steps and disk failures, of any length and in any order, without a crash: no step of the
   -- package's machine is undefined, and its history has an explanation by the specification, in which each answered call acts
   -- once, between its start and its answer, with the reply that the specification gives then.
-  pub refines : RefinesWithoutCrash (machine_of program) (specification_of atomic)
+  pub refines : RefinesWithoutCrash (machine_of (program_of program) (setting_of atomic)) (specification_of atomic)
+
+-- THE PROMISE of `explain` on files of these names, where it ends with status 0 or 1.
+pub record ExplainedPromise (held : List ℕ → Told) (heard : Heard) (status : ℕ) (spec_name history_name moves_name : List ℕ) : Type 0 where
+  -- What the files held, where that is told, spells a specification, a history of its calls, and moves.
+  pub atomic : Spec
+  pub is_spec : Reads (outside held) written_specs spec_name atomic
+  pub history : Vec Entry Global
+  pub is_history : Reads (outside held) (histories_of atomic) history_name history
+  pub moves : Vec Move Global
+  pub are_moves : Reads (outside held) (moves_of atomic) moves_name moves
+  -- The status is 0 exactly where the moves explain the history.
+  pub explains : status ≡ 0 ↔ IsExplanation atomic moves.items history.items
+  -- With status 1 it wrote the first move that is refused, by its number from 1, and why: the walk's first fault.
+  pub fault : status ≡ 1 → (at : ℕ) × (cause : WalkCause) × IsWritten heard (text_of (NotExplained at cause))
+      × (walked atomic history.items moves.items ≡ Err (record { index = at; cause = cause_of cause }))
+
+-- All of it: a field for each command.
+pub record Promise (words : List (List ℕ)) (held : List ℕ → Told) (heard : Heard) (status : ℕ) : Type 0 where
+  pub accepted : IsAccepted words heard status → AcceptedPromise words held
+  pub explained : (spec_name history_name moves_name : List ℕ) → Asks words (explain spec_name history_name moves_name) → status ≤ 1
+      → ExplainedPromise held heard status spec_name history_name moves_name

@@ -1,5 +1,5 @@
 -- The text of a script of the small form read from the front, step by step.
-use Rattle.std.specs.Prelude.{◌≡◌, ℕ, Bool, true, false, if◌then◌else◌, List, [], ◌∷◌, Option, Some, None, option_map, option_and_then, codes}
+use Rattle.std.specs.Prelude.{ℕ, Bool, true, false, if◌then◌else◌, List, [], ◌∷◌, Option, Some, None, option_map, option_and_then, codes}
 use Rattle.std.specs.Str.{bytes_eq}
 use Rattle.gv_base.specs.declared.answers.Place.{Place}
 use Rattle.gv_small.specs.Tokens.{Token, named, signed, arrowed, Placed, plain}

@@ -1,12 +1,8 @@
 -- What the words and the files deserve, and what `run` answers.
 use Rattle.std.specs.Prelude.{◌≡◌, ◌≢◌, ℕ, ◌-◌, ◌^◌, ◌<◌, ◌≤◌, ◌⊎◌, List}
-use Rattle.gv_base.specs.declared.answers.Place.{Place}
-use Rattle.gv_base.specs.declared.answers.Code.{Code}
-use Rattle.gv_small.specs.Tokens.{start}
 use Rattle.gv_base.specs.Outside.{Told}
-use Rattle.gv_report.specs.declared.cause.Cause.TheVariants.{NoAtom}
 use Rattle.gv_report.specs.declared.report.Report.{Report}
-use Rattle.gv_report.specs.declared.report.Report.TheVariants.{Usage, OutOfMemory, CannotRead, Refused, Unjustified, AcceptedWithoutCrash}
+use Rattle.gv_report.specs.declared.report.Report.TheVariants.{Usage, OutOfMemory, CannotRead}
 use Rattle.gv_report.specs.Report.{status_of, text_of}
 use Rattle.gv_report.specs.Heard as sink
 use Rattle.gv_report.specs.Heard.{Heard, IsWritten, IsPrefixWritten}
@@ -61,13 +57,8 @@ pub record IsAnswered (words : List (List ℕ)) (a : Asked) (h : Heard) (status 
   -- Words that are no command are answered by 2, and never by want of memory; 2 comes for no other words.
   pub usage : IsNoCommand words → (status ≡ 2) ⊎ (status ≡ 6)
   pub usage_only : status ≡ 2 → IsNoCommand words
-  -- Each status below 6 comes with a report that was deserved and written whole, and no put failed.
-  pub accepted : status ≡ 0 → Answers words a h AcceptedWithoutCrash
-  pub unjustified : status ≡ 1 → (place : Place) × Answers words a h (Unjustified place NoAtom)
-  pub usage_line : status ≡ 2 → Answers words a h Usage
-  pub unread : status ≡ 3 → (name : List ℕ) × Answers words a h (CannotRead name)
-  pub refused : status ≡ 4 → (name : List ℕ) × (code : Code) × Answers words a h (Refused name start code)
-  pub memory : status ≡ 5 → Answers words a h OutOfMemory
+  -- A status below 6 comes with a report of that status, which was deserved and written whole, and no put failed.
+  pub told : status ≤ 5 → (r : Report) × (status_of r ≡ status) × Answers words a h r
   pub calm : status ≤ 5 → sink.NoneFailed h
   -- 6 comes only where a put failed, and then always; a prefix of such a report was written.
   pub cut_off : status ≡ 6 → IsCutOff words a h

@@ -3,10 +3,13 @@
 ghost use Rattle.std.specs.Prelude.{◌≡◌, ℕ, List as Seq, IfSome, IfNone, map, string_bytes};
 ghost use Rattle.gv_top.specs.Check.{report_of};
 ghost use Rattle.gv_top.specs.Commands as table;
+ghost use Rattle.gv_top.specs.Commands.{Command as AnyCommand, AreWordsOf};
+ghost use Rattle.gv_top.specs.Explain.{report_of as explained_report};
 ghost use Rattle.gv_top.specs.Files.{asked, outside, IsBlamed};
 ghost use Rattle.gv_top.specs.Run.{IsBlamedIn};
 
 use crate::check::{CheckWords, Verdict, check};
+use crate::explain::{ExplainWords, Explanation, explain};
 use crate::files::Halt;
 use gv_base::Files;
 use gv_report::Report;
@@ -16,6 +19,7 @@ use std::alloc::Global;
 #[derive(Clone, Copy)]
 pub enum Command<'a> {
     Check(CheckWords<'a>),
+    Explain(ExplainWords<'a>),
 }
 
 // Whether the last word is `json`.
@@ -26,6 +30,33 @@ fn asks_for_json(words: &[String]) -> bool
         Some(word) => word.as_str() == "json",
         None => false,
     }
+}
+
+// The command that a word is over three files.
+fn of_three<'a>(
+    word: &'a str,
+    first: &'a str,
+    second: &'a str,
+    third: &'a str,
+) -> Option<Command<'a>>
+    ensures some { IfSome result (λ c. AreWordsOf (table.named c) word.now first.now second.now third.now) }
+    ensures none { IfNone result ((c : AnyCommand) → AreWordsOf c word.now first.now second.now third.now → ⊥) }
+{
+    if word == "check" {
+        return Some(Command::Check(CheckWords {
+            package: first,
+            spec: second,
+            script: third,
+        }));
+    }
+    if word == "explain" {
+        return Some(Command::Explain(ExplainWords {
+            spec: first,
+            history: second,
+            moves: third,
+        }));
+    }
+    None
 }
 
 /// The command that the words are. A last word `json` is always that word; as there is no report of
@@ -39,13 +70,12 @@ pub fn command_of(words: &Vec<String>) -> Option<Command>
         return None;
     }
     match words {
-        [command, package, spec, script] if command.as_str() == "check" => {
-            Some(Command::Check(CheckWords {
-                package: package.as_str(),
-                spec: spec.as_str(),
-                script: script.as_str(),
-            }))
-        }
+        [command, first, second, third] => of_three(
+            command.as_str(),
+            first.as_str(),
+            second.as_str(),
+            third.as_str(),
+        ),
         _ => None,
     }
 }
@@ -73,6 +103,16 @@ fn check_report(outcome: Result<Verdict, Halt>) -> Report
     }
 }
 
+// The report of what came of an explanation.
+fn explain_report(outcome: Result<Explanation, Halt>) -> Report
+    ensures { result ≡ table.reported explained_report outcome }
+{
+    match outcome {
+        Ok(explanation) => explanation.report(),
+        Err(halt) => halt.report(),
+    }
+}
+
 /// The report of what comes of a command.
 pub fn perform<F: Files>(alloc: Global, command: &Command, files: &mut F) -> Report
     ensures comes { table.Comes (outside (F.held files.old)) (table.named command.now) result }
@@ -81,5 +121,6 @@ pub fn perform<F: Files>(alloc: Global, command: &Command, files: &mut F) -> Rep
 {
     match command {
         Command::Check(names) => check_report(check(alloc, names, files)),
+        Command::Explain(names) => explain_report(explain(alloc, names, files)),
     }
 }

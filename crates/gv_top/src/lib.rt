@@ -4,6 +4,7 @@
 mod check;
 mod commands;
 mod comparing;
+mod explain;
 mod files;
 mod forms;
 mod laws;

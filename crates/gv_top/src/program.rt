@@ -4,7 +4,7 @@ ghost use Rattle.std.specs.Prelude.{◌≡◌, ℕ, List as Seq};
 ghost use Rattle.gv_report.specs.Heard.{heard};
 ghost use Rattle.gv_top.specs.Commands.{texts};
 ghost use Rattle.gv_top.specs.Files.{asked};
-ghost use Rattle.gv_top.specs.Promise.{IsAccepted, Promise};
+ghost use Rattle.gv_top.specs.Promise.{Promise};
 ghost use Rattle.gv_top.specs.Run.{Deserves, IsAnswered};
 
 use crate::commands::{command_of, perform};
@@ -23,14 +23,14 @@ fn deserved<F: Files>(alloc: Global, words: &Vec<String>, files: &mut F) -> Repo
     }
 }
 
-/// Does all that the program does, and gives the status that it ends with: 0 accepted, 1 unjustified,
-/// 2 usage, 3 a file that can't be fetched, 4 a text that is refused, 5 want of memory, 6 a put that
-/// failed. The report is made whole before the first put, and is put in pieces of at most 65,536
-/// bytes. This project's own.
+/// Does all that the program does, and gives the status that it ends with: 0 accepted or explained, 1 unjustified
+/// or not explained, 2 usage, 3 a file that can't be fetched, 4 a text that is refused, 5 want of memory, 6 a put
+/// that failed. The report is made whole before the first put, and is put in pieces of at most 65,536 bytes.
+/// This project's own.
 pub fn run<F: Files, K: Sink>(alloc: Global, words: &Vec<String>, files: &mut F, out: &mut K) -> u8
-    // Where it accepts, every run of the package without a crash is explained by the specification.
-    ensures promise { IsAccepted (texts words.now.items) (heard K.written K.faults out.old out.new) result
-        → Promise (texts words.now.items) (F.held files.old) }
+    // Where it accepts, every run of the package without a crash is explained by the specification; where it explains, the
+    // moves explain the history, and else they don't.
+    ensures promise { Promise (texts words.now.items) (F.held files.old) (heard K.written K.faults out.old out.new) result }
 
     // Each status comes with the report that is deserved, and wherever it must.
     ensures answered { IsAnswered (texts words.now.items) (asked F.held F.faults F.failed files.old files.new)

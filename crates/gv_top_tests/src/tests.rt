@@ -57,6 +57,27 @@ fn accepts_the_adder(rt: HostRuntime) -> Result<(), Fail> {
     Ok(())
 }
 
+// A history of one call, with its act, and with none.
+#[test]
+fn explains_a_call(rt: HostRuntime) -> Result<(), Fail> {
+    let alloc = rt.alloc();
+    let mut all = List::new(alloc);
+    all.push(held(alloc, b"s", SPEC)?)?;
+    all.push(held(alloc, b"h", b"boot\ncall 1 Add 2 3\nanswer 1 5\n")?)?;
+    all.push(held(alloc, b"m", b"boot\ncall 1 Add 2 3\nact 1\nanswer 1 5\n")?)?;
+    let mut files = SureFiles::new(all);
+    for (moves, status, line) in [
+        ("m", 0, "explained\n"),
+        ("h", 1, "not explained at 3 NotActed\n"),
+    ] {
+        let words = words_of(alloc, &["explain", "s", "h", moves])?;
+        let mut sink = MemSink::new(alloc, 1000, List::new(alloc))?;
+        assert_eq!(rt; run(alloc, &words, &mut files, &mut sink), status);
+        assert_eq!(rt; sink.written().as_slice(), line.as_bytes());
+    }
+    Ok(())
+}
+
 // The script's name, the fetches and puts that are to fail, the room, the status, and what is written.
 type Row = (
     &'static str,

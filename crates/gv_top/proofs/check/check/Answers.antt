@@ -1,10 +1,19 @@
 use Rattle.std.proofs.Common.{◌≡◌, ◌∙◌, ℕ, List}
-use Rattle.gv_base.specs.Outside.{Told}
 use Rattle.gv_top.specs.Files.{outside}
-use Rattle.gv_top.specs.Forms.{packages, specs_for, scripts_for}
-use Rattle.gv_top.proofs.CheckLemmas.{ends_at_script, ends, reads_later, halts_later}
+use Rattle.gv_top.specs.Forms.{specs_for, scripts_for}
+use Rattle.gv_top.proofs.CheckLemmas.{ends_at_spec, ends_at_script, ends, reads_later, halts_later}
 use Rattle.gv_top.proofs.FilesLemmas.{err_is}
 use Rattle.gv_top.proofs.check.check.Goals as goal
+
+pub returns-in_err-spec-clause-outcome : goal.returns-in_err-spec-clause-outcome
+returns-in_err-spec-clause-outcome g c =
+    let first = g.F.Files.held c.args.files.now in
+    let second = g.F.Files.held c.read_file.new.files in
+    let names = c.args.names.now in
+    let program = c.in_ok-package.package in
+    let halt = c.in_err-spec.field-0.0 in
+    ends_at_spec (outside first) names.package.now names.spec.now names.script.now c.from_residual-in_err-spec.result program c.in_ok-package.ensures.value halt
+    (err_is c.from_residual-in_err-spec.result halt c.from_residual-in_err-spec.ensures.1) (halts_later first second c.in_ok-package.ensures.kept (specs_for program) names.spec.now halt c.in_err-spec.ensures.value)
 
 pub returns-in_err-script-clause-outcome : goal.returns-in_err-script-clause-outcome
 returns-in_err-script-clause-outcome g c =

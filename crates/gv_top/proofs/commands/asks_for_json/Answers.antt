@@ -1,4 +1,4 @@
-use Rattle.std.proofs.Common.{◌≡◌, ◌∙◌, sym}
+use Rattle.std.proofs.Common.{◌∙◌, sym}
 use Rattle.gv_top.proofs.CommandLemmas.{last_is}
 use Rattle.gv_top.proofs.commands.asks_for_json.Goals as goal
 

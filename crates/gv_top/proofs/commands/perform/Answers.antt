@@ -1,8 +1,7 @@
-use Rattle.gv_top.proofs.CommandLemmas.{is_command}
 use Rattle.gv_top.proofs.commands.perform.Goals as goal
 
-pub returns-clause-comes : goal.returns-clause-comes
-returns-clause-comes g c =
-    let e = is_command c.args.command.now in
-    let checks = rw e.1 at c.check.ensures.outcome in
-    rw e.1 (c.check.result, checks, c.check_report.ensures)
+pub returns-in-Check-clause-comes : goal.returns-in-Check-clause-comes
+returns-in-Check-clause-comes g c = rw c.in-Check.is (c.check.result, c.check.ensures.outcome, c.check_report.ensures)
+
+pub returns-in-Explain-clause-comes : goal.returns-in-Explain-clause-comes
+returns-in-Explain-clause-comes g c = rw c.in-Explain.is (c.explain.result, c.explain.ensures.outcome, c.explain_report.ensures)

@@ -1,5 +1,5 @@
 use Rattle.std.proofs.Common.{refl}
-use Rattle.gv_top.specs.Run.{Deserves, Gives, usage, done}
+use Rattle.gv_top.specs.Run.{usage, done}
 use Rattle.gv_top.proofs.program.deserved.Goals as goal
 
 pub returns-in-None-clause-deserved : goal.returns-in-None-clause-deserved

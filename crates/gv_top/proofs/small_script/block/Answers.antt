@@ -1,4 +1,4 @@
-use Rattle.std.proofs.Common.{◌≡◌, ◌∙◌, sym, ap, refl}
+use Rattle.std.proofs.Common.{refl}
 use Rattle.std.specs.Prelude.{codes}
 use Rattle.gv_small.specs.Cursor.{kinds_left, tokens_left}
 use Rattle.gv_small.specs.Tokens.{plain}

@@ -1,7 +1,6 @@
-use Rattle.std.proofs.Common.{◌≡◌, ◌∙◌, sym, true, ap, [], List}
+use Rattle.std.proofs.Common.{◌≡◌, ◌∙◌, true}
 use Rattle.std.specs.Prelude.{not}
 use Rattle.gv_small.specs.Cursor.{tokens_left}
-use Rattle.gv_small.specs.Reading.{joined}
 use Rattle.gv_small.proofs.Many.{joined_turn}
 use Rattle.gv_top.specs.Reading as reading
 use Rattle.gv_top.proofs.ScriptLemmas.{block_shrinks, something}
