@@ -1,0 +1,4 @@
+pub mod Atoms
+pub mod Standing
+pub mod Kept
+pub mod Laws

@@ -1,0 +1,5 @@
+pub mod Equality
+pub mod Fitting
+pub mod Frame
+pub mod Excluding
+pub mod Sums

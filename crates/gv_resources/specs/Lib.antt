@@ -1,0 +1,5 @@
+pub mod Kinds
+pub mod Pieces
+pub mod Ghost
+pub mod Told
+pub mod Laws
