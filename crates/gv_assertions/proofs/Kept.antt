@@ -8,10 +8,10 @@ use Rattle.gv_terms.specs.declared.value.Env.{Env}
 use Rattle.gv_terms.specs.Trees.{value_under}
 use Rattle.gv_terms.specs.Values.{slice_of}
 use Rattle.gv_resources.specs.Kinds as kind
-use Rattle.gv_resources.specs.Kinds.{Kind}
+use Rattle.gv_resources.specs.Kinds.{Kind, item_kind}
 use Rattle.gv_resources.specs.Pieces.{Resource, Have, Piece, part_of, sum_below}
 use Rattle.gv_assertions.specs.Atoms.{Atom, Owns, Slice, Spare, Instance, Each, Case, Predicate, atoms_of}
-use Rattle.gv_assertions.specs.Standing.{AreParts, StandsFor, StandForAll, owns, slice, spare, instance, each, none, both, OwnsItems, OwnsSpare, item_kind, cell_key, number_under}
+use Rattle.gv_assertions.specs.Standing.{AreParts, StandsFor, StandForAll, owns, slice, spare, instance, each, none, both, OwnsItems, OwnsSpare, cell_key, number_under}
 use Rattle.gv_assertions.specs.Kept.{IsOfKinds, AreOfKinds, of_owns, of_slice, of_spare, of_instance, of_each, of_both}
 use Rattle.gv_assertions.specs.Laws.{PartsLaw}
 

@@ -6,10 +6,10 @@ use Rattle.gv_terms.specs.declared.value.Env.{Env}
 use Rattle.gv_terms.specs.Trees.{value_under}
 use Rattle.gv_terms.specs.Values.{slice_of}
 use Rattle.gv_resources.specs.Kinds as kind
-use Rattle.gv_resources.specs.Kinds.{Kind}
+use Rattle.gv_resources.specs.Kinds.{Kind, item_kind}
 use Rattle.gv_resources.specs.Pieces.{Resource, Have, Piece}
 use Rattle.gv_assertions.specs.Atoms.{Atom, Predicate, Takes, here, there}
-use Rattle.gv_assertions.specs.Standing.{AreParts, StandsFor, StandForAll, owns, slice, spare, instance, each, none, both, valued, OwnsItems, OwnsSpare, item_kind, cell_key}
+use Rattle.gv_assertions.specs.Standing.{AreParts, StandsFor, StandForAll, owns, slice, spare, instance, each, none, both, valued, OwnsItems, OwnsSpare, cell_key}
 use Rattle.gv_assertions.specs.Laws.{Parted, ListsLaw}
 
 -- ---- who owns more

@@ -3,9 +3,8 @@
 use Rattle.std.specs.Prelude.{◌≡◌, ℕ, Bool, true, List, [], ◌∷◌, Some, slice_get}
 use Rattle.gv_terms.specs.declared.tree.TermTree.{TermTree}
 use Rattle.gv_resources.specs.Kinds as kind
-use Rattle.gv_resources.specs.Kinds.{Kind, is_durable, is_persistent, is_token_free}
+use Rattle.gv_resources.specs.Kinds.{Kind, item_kind, is_durable, is_persistent, is_token_free}
 use Rattle.gv_assertions.specs.Atoms.{Atom, Owns, Slice, Spare, Instance, Each, Case, Predicate, atoms_of}
-use Rattle.gv_assertions.specs.Standing.{item_kind}
 
 mutual
   pub data IsOfKinds (keeps : Kind → Bool) (preds : List Predicate) : Atom → Type 0 where

@@ -10,7 +10,7 @@ use Rattle.gv_terms.specs.Values.{has_sort, word_of, slice_of}
 use Rattle.gv_terms.specs.Trees.{value_under}
 use Rattle.gv_atomic.specs.Choices.{bound, binds}
 use Rattle.gv_resources.specs.Kinds as kind
-use Rattle.gv_resources.specs.Kinds.{Kind}
+use Rattle.gv_resources.specs.Kinds.{Kind, item_kind}
 use Rattle.gv_resources.specs.Pieces.{Resource, Have, Piece, sum_below}
 use Rattle.gv_assertions.specs.Atoms.{Atom, Owns, Slice, Spare, Instance, Each, Case, Predicate, facts_of, atoms_of}
 
@@ -60,10 +60,6 @@ items_of (val.Bytes x) = Some (map (λ b. val.Bytes (b ∷ [])) x)
 items_of (val.Words x) = Some (map (λ w. val.Word w) x)
 items_of (val.Refs x) = Some (map (λ r. val.Ref r) x)
 items_of _ = None
-
-abbrev pub item_kind : Bool → Kind
-item_kind false = kind.Item
-item_kind true = kind.FrozenItem
 
 -- the key of the cell at a place of a slice, counted from its offset
 abbrev pub cell_key : SliceVal → ℕ → List Value

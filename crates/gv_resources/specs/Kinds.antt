@@ -88,3 +88,12 @@ is_persistent _ = false
 abbrev pub is_token_free : Kind → Bool
 is_token_free Token = false
 is_token_free _ = true
+
+-- the kinds of cells, and of a slice's, owned or read-only
+abbrev pub cell_kind : Bool → Kind
+cell_kind false = Cell
+cell_kind true = FrozenCell
+
+abbrev pub item_kind : Bool → Kind
+item_kind false = Item
+item_kind true = FrozenItem

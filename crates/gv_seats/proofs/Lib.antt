@@ -1,0 +1,5 @@
+pub mod Expressions
+pub mod Locals
+pub mod Moves
+pub mod Steps
+pub mod Loads

@@ -1,0 +1,4 @@
+pub mod Paths
+pub mod Seats
+pub mod Rules
+pub mod Laws

@@ -1,0 +1,71 @@
+-- When a rule is sound beside every rest, and some rows of rules.
+use Rattle.std.specs.Prelude.{◌≡◌, ℕ, Bool, false, List, [], ◌∷◌, Option, Some, None, slice_set, length, ◌<◌}
+use Rattle.gv_base.specs.declared.answers.Place.{Place}
+use Rattle.gv_base.specs.declared.answer.Answer.{Answer}
+use Rattle.gv_base.specs.declared.answer.Answer.TheVariants.{Next, Blocked}
+use Rattle.gv_terms.specs.declared.sort.Sort.{Sort}
+use Rattle.gv_terms.specs.declared.sort.Sort.TheVariants as sort
+use Rattle.gv_terms.specs.declared.tree.TermTree.{TermTree}
+use Rattle.gv_terms.specs.Trees.{sort_of}
+use Rattle.gv_world.specs.Store.{Store as World}
+use Rattle.gv_lang.specs.Tree.{Expr, Action, Let, Load, Cmd, Do, Program}
+use Rattle.gv_lang.specs.Todo.{Todo, Run}
+use Rattle.gv_lang.specs.Threads.{Frame, Thread}
+use Rattle.gv_lang.specs.Step.{Stepped, GoesOn, stepped}
+use Rattle.gv_resources.specs.Kinds.{cell_kind}
+use Rattle.gv_resources.specs.Pieces.{Piece}
+use Rattle.gv_resources.specs.Ghost.{Ghost}
+use Rattle.gv_assertions.specs.Atoms.{Atom, Owns, Takes}
+use Rattle.gv_assertions.specs.Kept.{IsPersistent}
+use Rattle.gv_seats.specs.Paths.{Path, term_of, number, goes_on}
+use Rattle.gv_seats.specs.Seats.{Proof, Seat}
+
+-- ---- moves
+
+-- A move of a path is sound: wherever a frame stands at the one, it stands at the other, beside the same rest; what is kept beside the state may change.
+abbrev pub IsSoundMove : Proof → Path → Path → Type 0
+IsSoundMove o h k = (w : World) (g : Ghost) (f : Frame) (rest : Piece) → Seat o w g f h rest → (after : Ghost) × Seat o w after f k rest
+
+-- ---- steps
+
+-- what a step of one kind comes to: it waits, or the frame goes on at this path beside the same rest, and nothing below it changes
+pub data Goes (o : Proof) (g : Ghost) (below : List Frame) (k : Path) (rest : Piece) : Answer Stepped → Type 0 where
+  waits : Goes o g below k rest Blocked
+  goes : {w : World} {f : Frame} → Seat o w g f k rest → Goes o g below k rest (Next (GoesOn w (record { top = f; below = below; begun = false }) []))
+
+-- A step is sound: wherever a frame stands at the path, its next step is not undefined, and it leads to the other path beside the same rest.
+abbrev pub IsSoundStep : Proof → Path → Path → Type 0
+IsSoundStep o h k = (program : Program) (extra : ℕ) (w : World) (g : Ghost) (f : Frame) (below : List Frame) (rest : Piece) → Seat o w g f h rest
+    → Goes o g below k rest (stepped program extra (record { top = f; below = below; begun = false }) w)
+
+-- ---- rows
+
+-- copy: what is persistent is there once more
+pub data Copies (o : Proof) (h : Path) : Path → Type 0 where
+  copies : (a : Atom) (left : List Atom) → Takes h.atoms a left → IsPersistent o.preds a → Copies o h (record h { atoms = a ∷ h.atoms })
+
+-- what a local may hold
+abbrev pub IsLocalSort : Sort → Type 0
+IsLocalSort sort.Word = Unit {0}
+IsLocalSort sort.Bool = Unit {0}
+IsLocalSort sort.Ref = Unit {0}
+IsLocalSort sort.SliceS = Unit {0}
+IsLocalSort _ = ⊥
+
+-- the local is there
+abbrev pub IsLocal : Path → ℕ → Type 0
+IsLocal h x = x < length h.locals
+
+-- x = e: the local gets the expression's term
+pub data Lets (h : Path) : Path → Type 0 where
+  lets : (x : ℕ) (e : Expr) (t : TermTree) (s : Sort) (place : Place) (rest : Todo) → h.todo ≡ Run (Do (Let x e) place) ∷ rest → IsLocal h x
+      → term_of h.locals e ≡ Some t → sort_of t ≡ Some s
+      → Lets h (goes_on h rest (slice_set h.locals x (Some t)) h.atoms)
+
+-- x = p.f: the local gets the value of the cell, which is owned or read-only
+pub data Loads (h : Path) : Path → Type 0 where
+  loads : (x : ℕ) (p : Expr) (object v : TermTree) (of field : ℕ) (frozen : Bool) (left : List Atom) (place : Place) (rest : Todo)
+      → h.todo ≡ Run (Do (Load x p of field) place) ∷ rest → IsLocal h x → term_of h.locals p ≡ Some object → sort_of object ≡ Some sort.Ref
+      → (s : Sort) → sort_of v ≡ Some s → IsLocalSort s
+      → Takes h.atoms (Owns (cell_kind frozen) (object ∷ number field ∷ []) (v ∷ [])) left
+      → Loads h (goes_on h rest (slice_set h.locals x (Some v)) h.atoms)

@@ -1,0 +1,23 @@
+//! Laws of the definitions in this crate. Each function does nothing: its contract is the law.
+
+ghost use Rattle.gv_seats.specs.Laws.{CopiesLaw, ExpressionsLaw, LetsLaw, LoadsLaw};
+
+/// An expression over locals has the value of its term.
+pub fn expression_values()
+    ensures { ExpressionsLaw }
+{}
+
+/// What is persistent may be copied.
+pub fn copies_sound()
+    ensures { CopiesLaw }
+{}
+
+/// Setting a local is sound beside every rest.
+pub fn lets_sound()
+    ensures { LetsLaw }
+{}
+
+/// Reading a cell that is owned or read-only is sound beside every rest.
+pub fn loads_sound()
+    ensures { LoadsLaw }
+{}

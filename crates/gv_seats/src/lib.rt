@@ -1,0 +1,6 @@
+//! One thread of a package beside all that others own, and when a rule of a proof is sound there.
+#![tactic(auto)]
+
+mod laws;
+
+pub use laws::{copies_sound, expression_values, lets_sound, loads_sound};
