@@ -1,9 +1,8 @@
 -- Expressions have the values of their terms.
-use Rattle.std.proofs.Common.{◌≡◌, ℕ, Bool, true, false, not, ◌&&◌, nat_eq, if◌then◌else◌, eqb-true, List, [], ◌∷◌, Option, Some, None, refl, sym, ap, subst, ◌∙◌}
+use Rattle.std.proofs.Common.{◌≡◌, ℕ, Bool, true, false, ◌&&◌, nat_eq, if◌then◌else◌, eqb-true, List, [], ◌∷◌, Option, Some, None, refl, sym, ap, subst, ◌∙◌}
 use Rattle.std.specs.Prelude.{slice_get}
 use Rattle.gv_base.specs.declared.val.Val.{Val}
 use Rattle.gv_base.specs.declared.val.Val.TheVariants as stored
-use Rattle.gv_base.specs.declared.slice_val.SliceVal.{SliceVal}
 use Rattle.gv_terms.specs.declared.sort.Sort.{Sort}
 use Rattle.gv_terms.specs.declared.sort.Sort.TheVariants as sort
 use Rattle.gv_terms.specs.declared.operator.Operator.{Operator}
@@ -27,7 +26,7 @@ use Rattle.gv_lang.specs.declared.pure.Binary.{Binary}
 use Rattle.gv_lang.specs.declared.pure.Binary.TheVariants as binary
 use Rattle.gv_lang.specs.Tree.{Expr, Number, Truth, Nil, NilSlice, LocalAt, One, Two}
 use Rattle.gv_lang.specs.Values.{value, one, two}
-use Rattle.gv_seats.specs.Paths.{number, unary_operator, binary_operator, known, over_one, over_two, term_of}
+use Rattle.gv_seats.specs.Paths.{unary_operator, binary_operator, known, over_one, over_two, term_of}
 use Rattle.gv_seats.specs.Seats.{plain, HaveValues}
 use Rattle.gv_seats.specs.Laws.{ExpressionsLaw}
 

@@ -1,9 +1,9 @@
 -- Reading a cell that is owned or read-only.
-use Rattle.std.proofs.Common.{◌≡◌, ◌≢◌, ℕ, zero, suc, ◌+◌, ◌-◌, ◌<◌, ◌≤◌, Bool, true, false, ◌&&◌, if◌then◌else◌, List, [], ◌∷◌, length, Option, Some, None, refl, sym, ap, subst, ◌∙◌, ◌⊎◌, inl, inr, arith}
-use Rattle.std.specs.Prelude.{slice_get, slice_set, nat_eq, nat_lt, take, drop}
+use Rattle.std.proofs.Common.{◌≡◌, ℕ, zero, suc, ◌+◌, ◌-◌, ◌<◌, ◌≤◌, Bool, true, false, List, [], ◌∷◌, Option, Some, None, refl, sym, ap, subst, ◌∙◌, inl, inr, arith}
+use Rattle.std.specs.Prelude.{slice_get, slice_set, nat_eq}
 use Rattle.gv_base.specs.declared.answers.Place.{Place}
 use Rattle.gv_base.specs.declared.answer.Answer.{Answer}
-use Rattle.gv_base.specs.declared.answer.Answer.TheVariants.{Next, Blocked, Undefined}
+use Rattle.gv_base.specs.declared.answer.Answer.TheVariants.{Next}
 use Rattle.gv_base.specs.declared.reason.Reason.TheVariants.{NilUse}
 use Rattle.gv_base.specs.declared.val.Val.{Val}
 use Rattle.gv_base.specs.declared.val.Val.TheVariants as stored
@@ -14,7 +14,7 @@ use Rattle.gv_terms.specs.declared.tree.TermTree.{TermTree}
 use Rattle.gv_terms.specs.declared.value.Env.{Env}
 use Rattle.gv_terms.specs.declared.value.Value.{Value}
 use Rattle.gv_terms.specs.declared.value.Value.TheVariants as val
-use Rattle.gv_terms.specs.Trees.{sort_of, value_under}
+use Rattle.gv_terms.specs.Trees.{value_under}
 use Rattle.gv_terms.specs.Values.{sort_of_value}
 use Rattle.gv_terms.proofs.Valued.{value_apply}
 use Rattle.gv_terms.proofs.ValueSorts.{values_have_sorts}
@@ -23,28 +23,27 @@ use Rattle.gv_world.specs.Answers.{and_then, undefined_if}
 use Rattle.gv_world.specs.Store as world
 use Rattle.gv_world.specs.Store.{Object, Store as World}
 use Rattle.gv_world.specs.Cells.{as_cells, cells_of, run, unmarked, as_read, first_value, read_cell}
-use Rattle.gv_lang.specs.Tree.{Expr, Load, Cmd, Do, Program}
+use Rattle.gv_lang.specs.Tree.{Expr, Load, Do, Program}
 use Rattle.gv_lang.specs.Todo.{Todo, Run}
 use Rattle.gv_lang.specs.Threads.{Frame}
 use Rattle.gv_lang.specs.Table.{sets, as_ref}
 use Rattle.gv_lang.specs.Values.{value}
-use Rattle.gv_lang.specs.Step.{Stepped, GoesOn, stepped, settled}
+use Rattle.gv_lang.specs.Step.{Stepped, stepped, settled}
 use Rattle.gv_resources.specs.Kinds as kind
 use Rattle.gv_resources.specs.Kinds.{Kind, cell_kind}
 use Rattle.gv_resources.specs.Pieces.{Resource, Have, Piece, Fits}
 use Rattle.gv_resources.specs.Ghost.{Ghost}
-use Rattle.gv_resources.specs.Laws.{Excludes}
-use Rattle.gv_resources.specs.Told.{Shape, told, only_if, value_of, object_at, cells_in, in_cell, cell_at}
+use Rattle.gv_resources.specs.Told.{Shape, told, only_if, value_of, object_at, cells_in, in_cell}
 use Rattle.gv_resources.proofs.Excluding.{excludes_law}
-use Rattle.gv_assertions.specs.Atoms.{Atom, Owns, Takes}
-use Rattle.gv_assertions.specs.Standing.{StandsFor, StandForAll, owns, valued}
+use Rattle.gv_assertions.specs.Atoms.{Owns}
+use Rattle.gv_assertions.specs.Standing.{StandsFor, owns}
 use Rattle.gv_assertions.proofs.Lists.{front, parted}
-use Rattle.gv_seats.specs.Paths.{Path, number, term_of, goes_on}
-use Rattle.gv_seats.specs.Seats.{Proof, Seat, Base, plain, is_marked, IsMarkedCell, OwnsUnder, OwnsCell, AreOwned, of_locks}
-use Rattle.gv_seats.specs.Rules.{IsSoundStep, Goes, goes, Loads, loads, IsLocal, IsLocalSort}
+use Rattle.gv_seats.specs.Paths.{number, goes_on}
+use Rattle.gv_seats.specs.Seats.{plain, is_marked, OwnsCell, of_locks}
+use Rattle.gv_seats.specs.Rules.{Goes, goes, loads, IsLocalSort}
 use Rattle.gv_seats.specs.Laws.{LoadsLaw}
 use Rattle.gv_seats.proofs.Expressions.{expressions_law}
-use Rattle.gv_seats.proofs.Steps.{resting, with_local, left_with, seat_set}
+use Rattle.gv_seats.proofs.Steps.{resting, left_with, seat_set}
 
 -- ---- what is told of a cell
 
@@ -53,10 +52,10 @@ only_if_is true x v e = e
 only_if_is false x v e = absurd cc
 
 -- a cell with this value
-record Found (w : World) (object place : ℕ) (x : Value) : Type 0 where
-  cell : Cell
-  there : slice_get (cells_in (object_at w object)) place ≡ Some cell
-  is : value_of cell.value ≡ x
+pub record Found (w : World) (object place : ℕ) (x : Value) : Type 0 where
+  pub cell : Cell
+  pub there : slice_get (cells_in (object_at w object)) place ≡ Some cell
+  pub is : value_of cell.value ≡ x
 
 one_value : (x y : Value) → Some (x ∷ []) ≡ Some (y ∷ []) → x ≡ y
 one_value x y e = cc
@@ -78,7 +77,7 @@ read_plain (stored.Byte b) x s e h l = let d : Some sort.Bytes ≡ Some s = ap s
 read_plain stored.Unit x s e h l = let d : None ≡ Some s = ap sort_of_value e ∙ h in absurd cc
 
 -- the run of one cell
-one_run : (cells : List Cell) (place : ℕ) (c : Cell) → slice_get cells place ≡ Some c → run cells place 1 ≡ c ∷ []
+pub one_run : (cells : List Cell) (place : ℕ) (c : Cell) → slice_get cells place ≡ Some c → run cells place 1 ≡ c ∷ []
 one_run [] place c e = absurd cc
 one_run (d ∷ cells) zero c e = cc
 one_run (d ∷ cells) (suc place) c e = one_run cells place c e
@@ -94,7 +93,7 @@ numbered : (w : World) (object n : ℕ) (is_nil : Bool) → is_nil ≡ false →
 numbered w object n false e d = ap (λ k. as_cells (slice_get w.objects k)) d
 numbered w object n true e d = absurd cc
 
-cells_are : (w : World) (n : ℕ) → cells_of w (suc n) ≡ as_cells (slice_get w.objects n)
+pub cells_are : (w : World) (n : ℕ) → cells_of w (suc n) ≡ as_cells (slice_get w.objects n)
 cells_are w n = numbered w (suc n) n (nat_eq (suc n) 0) (grind arith) (omega arith)
 
 reads : (w : World) (object place : ℕ) (c : Cell) → slice_get (cells_in (object_at w object)) place ≡ Some c → c.marked ≡ false → read_cell w object place ≡ Next (as_read c.value)
@@ -112,11 +111,11 @@ reads w (suc n) place c there m =
 -- ---- no write of the cell has begun
 
 module _ (z : Shape) (w : World) (g : Ghost) (whole : Piece) (f : Fits whole (told z w g)) (object place : ℕ) where
-  abbrev key : List Value
+  abbrev pub key : List Value
   key = val.Ref object ∷ val.Word place ∷ []
 
   -- who owns the cell, or knows it as read-only, knows that nobody else owns it
-  nobody : (frozen : Bool) (v : List Value) (mine rest : Piece) → ((e : Resource) → mine e + rest e ≤ whole e) → 0 < mine (Have (cell_kind frozen) key v) → OwnsCell rest object place → ⊥
+  pub nobody : (frozen : Bool) (v : List Value) (mine rest : Piece) → ((e : Resource) → mine e + rest e ≤ whole e) → 0 < mine (Have (cell_kind frozen) key v) → OwnsCell rest object place → ⊥
   nobody false v mine rest parts has (inl (u, other)) = (excludes_law z w g whole f).alone kind.Cell key v u mine rest refl parts has other
   nobody true v mine rest parts has (inl (u, other)) =
       let a = parts (Have kind.FrozenCell key v) in
@@ -131,13 +130,13 @@ module _ (z : Shape) (w : World) (g : Ghost) (whole : Piece) (f : Fits whole (to
       let b = parts (Have kind.Item key u) in
       (excludes_law z w g whole f).one_form kind.FrozenCell kind.Item object place place v u (inr refl) (inl refl) (omega arith) (omega arith)
 
-unmarked_is : (b : Bool) → (b ≡ true → ⊥) → b ≡ false
+pub unmarked_is : (b : Bool) → (b ≡ true → ⊥) → b ≡ false
 unmarked_is true never = absurd (never refl)
 unmarked_is false never = refl
 
 -- ---- x = p.f
 
-as_ref_is : (v : Val) (n : ℕ) → plain v ≡ Some (val.Ref n) → v ≡ stored.Ref n
+pub as_ref_is : (v : Val) (n : ℕ) → plain v ≡ Some (val.Ref n) → v ≡ stored.Ref n
 as_ref_is (stored.Ref r) n e = let same : r ≡ n = cc in ap stored.Ref same
 as_ref_is (stored.Word m) n e = absurd cc
 as_ref_is (stored.Bool b) n e = absurd cc
@@ -146,7 +145,7 @@ as_ref_is (stored.Byte b) n e = absurd cc
 as_ref_is stored.Unit n e = absurd cc
 
 -- a value of the sort of references
-ref_value : (x : Value) → sort_of_value x ≡ Some sort.Ref → (n : ℕ) × (x ≡ val.Ref n)
+pub ref_value : (x : Value) → sort_of_value x ≡ Some sort.Ref → (n : ℕ) × (x ≡ val.Ref n)
 ref_value (val.Ref n) e = (n, refl)
 ref_value _ e = absurd cc
 
@@ -163,14 +162,14 @@ module _ (program : Program) (extra : ℕ) (w : World) (f : Frame) (below : List
       (subst (λ (a : Answer Val). and_then (and_then a (λ u. sets w f.locals x u)) (settled (resting (at (Run (Do (Load x p of field) place) ∷ next)) below) w (Some next))
           ≡ left_with program extra w f below x v next) (sym read) refl))
 
-cell_key : (x y : Value) (n field : ℕ) → x ≡ val.Ref n → y ≡ val.Word field → x ∷ y ∷ [] ≡ val.Ref n ∷ val.Word field ∷ []
+pub cell_key : (x y : Value) (n field : ℕ) → x ≡ val.Ref n → y ≡ val.Word field → x ∷ y ∷ [] ≡ val.Ref n ∷ val.Word field ∷ []
 cell_key x y n field e d = rw (e, d) refl
 
-owned_cell : {preds : List _} {env : Env} {k : Kind} {object v : TermTree} {field : ℕ} {p : Piece} → StandsFor preds env (Owns k (object ∷ number field ∷ []) (v ∷ [])) p
+pub owned_cell : {preds : List _} {env : Env} {k : Kind} {object v : TermTree} {field : ℕ} {p : Piece} → StandsFor preds env (Owns k (object ∷ number field ∷ []) (v ∷ [])) p
     → 0 < p (Have k (value_under env object ∷ value_under env (number field) ∷ []) (value_under env v ∷ []))
 owned_cell (owns has) = has
 
-cell_told : (z : Shape) (w : World) (g : Ghost) (frozen : Bool) (n field : ℕ) (x : Value)
+pub cell_told : (z : Shape) (w : World) (g : Ghost) (frozen : Bool) (n field : ℕ) (x : Value)
     → told z w g (cell_kind frozen) (val.Ref n ∷ val.Word field ∷ []) ≡ Some (x ∷ []) → Found w n field x
 cell_told z w g false n field x e = found_in w n field x _ refl (only_if_is _ _ (x ∷ []) e)
 cell_told z w g true n field x e = found_in w n field x _ refl (only_if_is _ _ (x ∷ []) e)

@@ -1,20 +1,16 @@
 -- Moves: what is persistent is copied.
-use Rattle.std.proofs.Common.{◌≡◌, ◌≢◌, ℕ, suc, ◌+◌, ◌<◌, ◌≤◌, Bool, true, false, if◌then◌else◌, List, [], ◌∷◌, Option, Some, None, refl, sym, ap, subst, ◌∙◌, arith}
+use Rattle.std.proofs.Common.{◌≡◌, ℕ, ◌+◌, ◌<◌, ◌≤◌, Bool, true, false, if◌then◌else◌, List, Some, refl, arith}
 use Rattle.gv_terms.specs.declared.value.Value.{Value}
 use Rattle.gv_world.specs.Store.{Store as World}
-use Rattle.gv_lang.specs.Threads.{Frame}
-use Rattle.gv_resources.specs.Kinds.{Kind, Cell, FrozenCell, Item, FrozenItem, Map, Mutex, Held, Lock, Master, Lease, Down, Field, FieldLease, BookMaster, BookLease, Token, Done, Half, OpenCall, Recovering, most, is_persistent}
+use Rattle.gv_resources.specs.Kinds.{Kind, FrozenCell, FrozenItem, Lock, Down, most, is_persistent}
 use Rattle.gv_resources.specs.Pieces.{Resource, Have, Piece, Telling, Fits, part_of}
 use Rattle.gv_resources.specs.Ghost.{Ghost}
-use Rattle.gv_resources.specs.Told.{told}
-use Rattle.gv_assertions.specs.Atoms.{Atom, Takes}
-use Rattle.gv_assertions.specs.Standing.{AreParts, StandsFor, StandForAll, both}
-use Rattle.gv_assertions.specs.Kept.{IsPersistent}
+use Rattle.gv_assertions.specs.Standing.{both}
 use Rattle.gv_assertions.proofs.Lists.{front, parted}
 use Rattle.gv_assertions.proofs.Kept.{part_for}
 use Rattle.gv_seats.specs.Paths.{Path}
-use Rattle.gv_seats.specs.Seats.{Proof, Seat, Base, Described, of_locks}
-use Rattle.gv_seats.specs.Rules.{IsSoundMove, Copies, copies}
+use Rattle.gv_seats.specs.Seats.{Proof, Base}
+use Rattle.gv_seats.specs.Rules.{copies}
 use Rattle.gv_seats.specs.Laws.{CopiesLaw}
 
 -- what may be owned so many times only isn't persistent

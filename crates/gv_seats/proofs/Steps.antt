@@ -1,27 +1,25 @@
 -- Steps of one thread: setting a local, and reading a cell.
-use Rattle.std.proofs.Common.{◌≡◌, ◌≢◌, ℕ, zero, suc, ◌+◌, ◌-◌, ◌<◌, ◌≤◌, Bool, true, false, List, [], ◌∷◌, length, Option, Some, None, refl, sym, ap, subst, ◌∙◌, ◌⊎◌, inl, inr, arith}
-use Rattle.std.specs.Prelude.{slice_get, slice_set, nat_eq, take, drop}
+use Rattle.std.proofs.Common.{◌≡◌, ℕ, false, List, [], ◌∷◌, Option, Some, refl, sym, subst, ◌∙◌}
+use Rattle.std.specs.Prelude.{slice_set}
 use Rattle.gv_base.specs.declared.answers.Place.{Place}
 use Rattle.gv_base.specs.declared.answer.Answer.{Answer}
-use Rattle.gv_base.specs.declared.answer.Answer.TheVariants.{Next, Blocked, Undefined}
+use Rattle.gv_base.specs.declared.answer.Answer.TheVariants.{Next}
 use Rattle.gv_base.specs.declared.val.Val.{Val}
-use Rattle.gv_base.specs.declared.val.Val.TheVariants as stored
 use Rattle.gv_terms.specs.declared.tree.TermTree.{TermTree}
-use Rattle.gv_terms.specs.declared.value.Env.{Env}
 use Rattle.gv_terms.specs.Trees.{value_under}
 use Rattle.gv_world.specs.Answers.{and_then}
 use Rattle.gv_world.specs.Store.{Store as World}
-use Rattle.gv_lang.specs.Tree.{Expr, Action, Let, Load, Cmd, Do, Program}
+use Rattle.gv_lang.specs.Tree.{Expr, Let, Do, Program}
 use Rattle.gv_lang.specs.Todo.{Todo, Run}
 use Rattle.gv_lang.specs.Threads.{Frame, Thread}
-use Rattle.gv_lang.specs.Table.{Effect, sets, as_value}
+use Rattle.gv_lang.specs.Table.{sets, as_value}
 use Rattle.gv_lang.specs.Values.{value}
 use Rattle.gv_lang.specs.Step.{Stepped, GoesOn, stepped, settled}
 use Rattle.gv_resources.specs.Pieces.{Piece}
-use Rattle.gv_resources.specs.Ghost.{Ghost, Mode, Shared}
-use Rattle.gv_seats.specs.Paths.{Path, Bracket, Closed, Opened, Used, after_step, term_of, goes_on}
-use Rattle.gv_seats.specs.Seats.{Proof, Seat, Base, Described, plain, HaveValues}
-use Rattle.gv_seats.specs.Rules.{IsSoundStep, Goes, goes, Lets, lets, IsLocal}
+use Rattle.gv_resources.specs.Ghost.{Ghost, Mode}
+use Rattle.gv_seats.specs.Paths.{Path, Bracket, Closed, Opened, Used, after_step, goes_on}
+use Rattle.gv_seats.specs.Seats.{Proof, Seat, Base, plain}
+use Rattle.gv_seats.specs.Rules.{Goes, goes, lets, IsLocal}
 use Rattle.gv_seats.specs.Laws.{LetsLaw}
 use Rattle.gv_seats.proofs.Expressions.{expressions_law}
 use Rattle.gv_seats.proofs.Locals.{have_set, set_length}
@@ -36,12 +34,12 @@ with_local f x v rest = record f { locals = slice_set f.locals x v; todo = rest 
 
 -- ---- the same piece after a step that leaves the world
 
-still_closed : (b : Bracket) → after_step b ≡ Closed → b ≡ Closed
+pub still_closed : (b : Bracket) → after_step b ≡ Closed → b ≡ Closed
 still_closed Closed e = refl
 still_closed Opened e = absurd cc
 still_closed Used e = absurd cc
 
-base_after : (o : Proof) (w : World) (g : Ghost) (m : Mode) (b : Bracket) (p pool : Piece) (locks : ℕ → Piece) (rest : Piece) → Base o w g m b p pool locks rest
+pub base_after : (o : Proof) (w : World) (g : Ghost) (m : Mode) (b : Bracket) (p pool : Piece) (locks : ℕ → Piece) (rest : Piece) → Base o w g m b p pool locks rest
     → Base o w g m (after_step b) p pool locks rest
 base_after o w g m b p pool locks rest base = record {
   fits = base.fits;

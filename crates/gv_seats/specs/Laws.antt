@@ -1,5 +1,5 @@
 -- Rules that are sound beside every rest.
-use Rattle.std.specs.Prelude.{◌≡◌, ℕ, List, Option, Some, slice_get}
+use Rattle.std.specs.Prelude.{◌≡◌, List, Option, Some}
 use Rattle.gv_base.specs.declared.val.Val.{Val}
 use Rattle.gv_terms.specs.declared.tree.TermTree.{TermTree}
 use Rattle.gv_terms.specs.declared.value.Env.{Env}
@@ -9,7 +9,7 @@ use Rattle.gv_lang.specs.Tree.{Expr}
 use Rattle.gv_lang.specs.Values.{value}
 use Rattle.gv_seats.specs.Paths.{Path, term_of}
 use Rattle.gv_seats.specs.Seats.{Proof, HaveValues, plain}
-use Rattle.gv_seats.specs.Rules.{IsSoundMove, IsSoundStep, Copies, Lets, Loads}
+use Rattle.gv_seats.specs.Rules.{IsSoundMove, IsSoundStep, IsSoundWrite, Copies, Lets, Loads, Stores}
 
 -- where locals have the values of their terms, an expression whose term has a sort has its term's value
 abbrev pub ExpressionsLaw : Type 0
@@ -24,3 +24,6 @@ LetsLaw = (o : Proof) (h k : Path) → Lets h k → IsSoundStep o h k
 
 abbrev pub LoadsLaw : Type 0
 LoadsLaw = (o : Proof) (h k : Path) → Loads h k → IsSoundStep o h k
+
+abbrev pub StoresLaw : Type 0
+StoresLaw = (o : Proof) (h k : Path) → Stores h k → IsSoundWrite o h k

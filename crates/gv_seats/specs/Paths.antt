@@ -1,5 +1,5 @@
 -- What a path of a proof knows when a frame stands at a command.
-use Rattle.std.specs.Prelude.{ℕ, Bool, true, false, List, [], ◌∷◌, Option, Some, None, slice_get, slice_set, if◌then◌else◌}
+use Rattle.std.specs.Prelude.{ℕ, true, false, List, [], ◌∷◌, Option, Some, None, slice_get}
 use Rattle.gv_terms.specs.declared.operator.Operator.{Operator}
 use Rattle.gv_terms.specs.declared.operator.Operator.TheVariants as op
 use Rattle.gv_terms.specs.declared.tree.TermTree.{TermTree}

@@ -1,5 +1,5 @@
 -- When a rule is sound beside every rest, and some rows of rules.
-use Rattle.std.specs.Prelude.{◌≡◌, ℕ, Bool, false, List, [], ◌∷◌, Option, Some, None, slice_set, length, ◌<◌}
+use Rattle.std.specs.Prelude.{◌≡◌, ℕ, Bool, true, false, List, [], ◌∷◌, Some, slice_set, length, ◌<◌}
 use Rattle.gv_base.specs.declared.answers.Place.{Place}
 use Rattle.gv_base.specs.declared.answer.Answer.{Answer}
 use Rattle.gv_base.specs.declared.answer.Answer.TheVariants.{Next, Blocked}
@@ -8,17 +8,18 @@ use Rattle.gv_terms.specs.declared.sort.Sort.TheVariants as sort
 use Rattle.gv_terms.specs.declared.tree.TermTree.{TermTree}
 use Rattle.gv_terms.specs.Trees.{sort_of}
 use Rattle.gv_world.specs.Store.{Store as World}
-use Rattle.gv_lang.specs.Tree.{Expr, Action, Let, Load, Cmd, Do, Program}
+use Rattle.gv_lang.specs.Tree.{Expr, Let, Load, Store, Do, Program}
 use Rattle.gv_lang.specs.Todo.{Todo, Run}
-use Rattle.gv_lang.specs.Threads.{Frame, Thread}
+use Rattle.gv_lang.specs.Threads.{Frame}
 use Rattle.gv_lang.specs.Step.{Stepped, GoesOn, stepped}
+use Rattle.gv_resources.specs.Kinds as kind
 use Rattle.gv_resources.specs.Kinds.{cell_kind}
 use Rattle.gv_resources.specs.Pieces.{Piece}
 use Rattle.gv_resources.specs.Ghost.{Ghost}
 use Rattle.gv_assertions.specs.Atoms.{Atom, Owns, Takes}
 use Rattle.gv_assertions.specs.Kept.{IsPersistent}
 use Rattle.gv_seats.specs.Paths.{Path, term_of, number, goes_on}
-use Rattle.gv_seats.specs.Seats.{Proof, Seat}
+use Rattle.gv_seats.specs.Seats.{Proof, Seat, BegunSeat}
 
 -- ---- moves
 
@@ -37,6 +38,18 @@ pub data Goes (o : Proof) (g : Ghost) (below : List Frame) (k : Path) (rest : Pi
 abbrev pub IsSoundStep : Proof → Path → Path → Type 0
 IsSoundStep o h k = (program : Program) (extra : ℕ) (w : World) (g : Ghost) (f : Frame) (below : List Frame) (rest : Piece) → Seat o w g f h rest
     → Goes o g below k rest (stepped program extra (record { top = f; below = below; begun = false }) w)
+
+-- what the first step of a write comes to
+pub data BeginsAt (o : Proof) (g : Ghost) (below : List Frame) (h : Path) (rest : Piece) : Answer Stepped → Type 0 where
+  begins : {w : World} {f : Frame} → BegunSeat o w g f h rest → BeginsAt o g below h rest (Next (GoesOn w (record { top = f; below = below; begun = true }) []))
+
+-- A write is sound: wherever a frame stands at the path, the first step of its next command is not undefined, and the frame stands there still, with its
+-- write begun; and wherever it stands so, beside whatever rest there is then, the second step leads to the other path.
+pub record IsSoundWrite (o : Proof) (h k : Path) : Type 0 where
+  pub begin : (program : Program) (extra : ℕ) (w : World) (g : Ghost) (f : Frame) (below : List Frame) (rest : Piece) → Seat o w g f h rest
+      → BeginsAt o g below h rest (stepped program extra (record { top = f; below = below; begun = false }) w)
+  pub end : (program : Program) (extra : ℕ) (w : World) (g : Ghost) (f : Frame) (below : List Frame) (rest : Piece) → BegunSeat o w g f h rest
+      → Goes o g below k rest (stepped program extra (record { top = f; below = below; begun = true }) w)
 
 -- ---- rows
 
@@ -69,3 +82,16 @@ pub data Loads (h : Path) : Path → Type 0 where
       → (s : Sort) → sort_of v ≡ Some s → IsLocalSort s
       → Takes h.atoms (Owns (cell_kind frozen) (object ∷ number field ∷ []) (v ∷ [])) left
       → Loads h (goes_on h rest (slice_set h.locals x (Some v)) h.atoms)
+
+-- an item of a list becomes another
+pub data Replaces {A : Type 0} : List A → A → A → List A → Type 0 where
+  here : {x y : A} {xs : List A} → Replaces (x ∷ xs) x y (y ∷ xs)
+  there : {x y z : A} {xs ys : List A} → Replaces xs x y ys → Replaces (z ∷ xs) x y (z ∷ ys)
+
+-- p.f = e: the cell, which must be owned, gets the expression's term
+pub data Stores (h : Path) : Path → Type 0 where
+  stores : (p e : Expr) (object v t : TermTree) (of field : ℕ) (atoms : List Atom) (place : Place) (rest : Todo)
+      → h.todo ≡ Run (Do (Store p of field e) place) ∷ rest → term_of h.locals p ≡ Some object → sort_of object ≡ Some sort.Ref
+      → term_of h.locals e ≡ Some t → (s : Sort) → sort_of t ≡ Some s → sort_of v ≡ Some s → IsLocalSort s
+      → Replaces h.atoms (Owns kind.Cell (object ∷ number field ∷ []) (v ∷ [])) (Owns kind.Cell (object ∷ number field ∷ []) (t ∷ [])) atoms
+      → Stores h (goes_on h rest h.locals atoms)

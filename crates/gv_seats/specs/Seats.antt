@@ -1,5 +1,5 @@
 -- One frame of one thread beside all that others own: when a state is as a path of a proof says.
-use Rattle.std.specs.Prelude.{◌≡◌, ◌⊎◌, ℕ, suc, ◌+◌, ◌<◌, ◌≤◌, Bool, true, false, List, [], ◌∷◌, Option, Some, None, Ok, All, length, slice_get}
+use Rattle.std.specs.Prelude.{◌≡◌, ◌⊎◌, ℕ, suc, ◌+◌, ◌<◌, Bool, true, false, List, [], ◌∷◌, Option, Some, None, Ok, All, length, slice_get}
 use Rattle.gv_base.specs.declared.val.Val.{Val}
 use Rattle.gv_base.specs.declared.val.Val.TheVariants as stored
 use Rattle.gv_terms.specs.declared.tree.TermTree.{TermTree}
@@ -11,11 +11,15 @@ use Rattle.gv_world.specs.declared.cell.Cell.{Cell}
 use Rattle.gv_world.specs.Store as world
 use Rattle.gv_world.specs.Store.{Object, Disk, Store as World, block_bytes}
 use Rattle.gv_spec.specs.Specification.{Specification}
-use Rattle.gv_spec.specs.Walks.{Standing, NeverCalled, Called, Acted, WalkState, first_walk, walk_from}
+use Rattle.gv_spec.specs.Walks.{NeverCalled, Called, Acted, first_walk, walk_from}
+use Rattle.gv_base.specs.declared.answers.Place.{Place}
+use Rattle.gv_lang.specs.Tree.{Expr, Store, Do}
+use Rattle.gv_lang.specs.Todo.{Todo, Run}
+use Rattle.gv_lang.specs.Values.{value}
 use Rattle.gv_lang.specs.Threads.{Frame}
 use Rattle.gv_resources.specs.Kinds as kind
 use Rattle.gv_resources.specs.Kinds.{Kind}
-use Rattle.gv_resources.specs.Pieces.{Resource, Have, Piece, Fits, sum_below}
+use Rattle.gv_resources.specs.Pieces.{Have, Piece, Fits, sum_below}
 use Rattle.gv_resources.specs.Ghost.{Ghost, Mode, Shared}
 use Rattle.gv_resources.specs.Told.{Shape, told, object_at, cells_in, locked_in, is_in_table}
 use Rattle.gv_assertions.specs.Atoms.{Instance, Predicate}
@@ -139,3 +143,27 @@ pub record Seat (o : Proof) (w : World) (g : Ghost) (f : Frame) (h : Path) (rest
   pub described : Described o.preds env h f piece
   pub base : Base o w g h.mode h.bracket piece pool locks rest
   pub still : AreOwned w rest
+
+-- the cell that a frame's next command writes, where it writes one cell of a struct
+pub data Writes (f : Frame) : (object place : ℕ) → Type 0 where
+  stores : (p : Expr) (of field : ℕ) (e : Expr) (at : Place) (next : Todo) (object : ℕ) → f.todo ≡ Run (Do (Store p of field e) at) ∷ next
+      → value f.locals p ≡ Some (stored.Ref object) → Writes f object field
+
+-- each write that has begun is of this cell, or of what a piece owns
+pub record AreOwnedBut (w : World) (object place : ℕ) (p : Piece) : Type 0 where
+  pub cells : (o i : ℕ) → IsMarkedCell w o i → ((o ≡ object) × (i ≡ place)) ⊎ OwnsCell p o i
+  pub maps : (o : ℕ) → IsMarkedMap w o → OwnsUnder p kind.Map (val.Ref o ∷ [])
+
+-- The same in the middle of a write: the first step of the frame's next command is done. Its piece still owns what it has marked.
+pub record BegunSeat (o : Proof) (w : World) (g : Ghost) (f : Frame) (h : Path) (rest : Piece) : Type 0 where
+  pub env : Env
+  pub piece : Piece
+  pub pool : Piece
+  pub locks : ℕ → Piece
+  pub described : Described o.preds env h f piece
+  pub base : Base o w g h.mode h.bracket piece pool locks rest
+  pub object : ℕ
+  pub place : ℕ
+  pub writes : Writes f object place
+  pub mine : OwnsUnder piece kind.Cell (val.Ref object ∷ val.Word place ∷ [])
+  pub still : AreOwnedBut w object place rest

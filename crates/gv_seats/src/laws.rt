@@ -1,6 +1,6 @@
 //! Laws of the definitions in this crate. Each function does nothing: its contract is the law.
 
-ghost use Rattle.gv_seats.specs.Laws.{CopiesLaw, ExpressionsLaw, LetsLaw, LoadsLaw};
+ghost use Rattle.gv_seats.specs.Laws.{CopiesLaw, ExpressionsLaw, LetsLaw, LoadsLaw, StoresLaw};
 
 /// An expression over locals has the value of its term.
 pub fn expression_values()
@@ -20,4 +20,9 @@ pub fn lets_sound()
 /// Reading a cell that is owned or read-only is sound beside every rest.
 pub fn loads_sound()
     ensures { LoadsLaw }
+{}
+
+/// Writing a cell that is owned is sound beside every rest, in both of its steps: others may step in between.
+pub fn stores_sound()
+    ensures { StoresLaw }
 {}
