@@ -36,17 +36,21 @@ PartsLaw = (keeps : Kind → Bool) (preds : List Predicate) (env : Env) (all : L
 
 -- ---- ranges
 
+-- a part stands for the assertion of one number, and another for the range without it
+abbrev pub IsTakenOutOf : List Predicate → Env → List ℕ → (low high t : TermTree) → List TermTree → Atom → Piece → Type 0
+IsTakenOutOf preds env index low high t except a p =
+    Parted (StandsFor preds (indexed env index (number_under env t)) a) (StandsFor preds env (Each index low high (t ∷ except) a)) p
+
 pub record RangeLaws (preds : List Predicate) : Type 0 where
   -- a number that is in the range and not left out comes out of it, and is left out then
   pub take : (env : Env) (index : List ℕ) (low high t : TermTree) (except : List TermTree) (a : Atom) (p : Piece)
       → number_under env low ≤ number_under env t → number_under env t < number_under env high → IsNoneOf env except (number_under env t)
       → StandsFor preds env (Each index low high except a) p
-      → Parted (StandsFor preds (indexed env index (number_under env t)) a) (StandsFor preds env (Each index low high (t ∷ except) a)) p
+      → IsTakenOutOf preds env index low high t except a p
   -- and goes back
   pub put : (env : Env) (index : List ℕ) (low high t : TermTree) (except : List TermTree) (a : Atom) (p : Piece)
       → number_under env t < number_under env high
-      → Parted (StandsFor preds (indexed env index (number_under env t)) a) (StandsFor preds env (Each index low high (t ∷ except) a)) p
-      → StandsFor preds env (Each index low high except a) p
+      → IsTakenOutOf preds env index low high t except a p → StandsFor preds env (Each index low high except a) p
   -- a range falls into two at a number between its ends, and two such ranges are one
   pub split : (env : Env) (index : List ℕ) (low mid high : TermTree) (a : Atom) (p : Piece)
       → number_under env low ≤ number_under env mid → number_under env mid ≤ number_under env high
