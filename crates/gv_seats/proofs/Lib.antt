@@ -6,3 +6,4 @@ pub mod Loads
 pub mod Objects
 pub mod Telling
 pub mod Stores
+pub mod Locks

@@ -14,7 +14,7 @@ use Rattle.gv_resources.proofs.Fitting.{retold, retold_test}
 use Rattle.gv_resources.proofs.Sums.{number_test}
 use Rattle.gv_seats.proofs.Objects.{HasCell, with_cell, cell_there, cell_elsewhere, kept_of}
 
-under_same : {K : Type 0} (key : Option K) (f g : K → Option (List Value)) → ((k : K) → f k ≡ g k) → under key f ≡ under key g
+pub under_same : {K : Type 0} (key : Option K) (f g : K → Option (List Value)) → ((k : K) → f k ≡ g k) → under key f ≡ under key g
 under_same None f g same = refl
 under_same (Some k) f g same = same k
 

@@ -9,7 +9,7 @@ use Rattle.gv_lang.specs.Tree.{Expr}
 use Rattle.gv_lang.specs.Values.{value}
 use Rattle.gv_seats.specs.Paths.{Path, term_of}
 use Rattle.gv_seats.specs.Seats.{Proof, HaveValues, plain}
-use Rattle.gv_seats.specs.Rules.{IsSoundMove, IsSoundStep, IsSoundWrite, Copies, Lets, Loads, Stores}
+use Rattle.gv_seats.specs.Rules.{IsSoundMove, IsSoundStep, IsSoundWrite, Copies, Lets, Loads, Stores, Locks, Unlocks}
 
 -- where locals have the values of their terms, an expression whose term has a sort has its term's value
 abbrev pub ExpressionsLaw : Type 0
@@ -27,3 +27,9 @@ LoadsLaw = (o : Proof) (h k : Path) → Loads h k → IsSoundStep o h k
 
 abbrev pub StoresLaw : Type 0
 StoresLaw = (o : Proof) (h k : Path) → Stores h k → IsSoundWrite o h k
+
+abbrev pub LocksLaw : Type 0
+LocksLaw = (o : Proof) (h k : Path) → Locks h k → IsSoundStep o h k
+
+abbrev pub UnlocksLaw : Type 0
+UnlocksLaw = (o : Proof) (h k : Path) → Unlocks h k → IsSoundStep o h k

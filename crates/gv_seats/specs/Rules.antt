@@ -8,7 +8,7 @@ use Rattle.gv_terms.specs.declared.sort.Sort.TheVariants as sort
 use Rattle.gv_terms.specs.declared.tree.TermTree.{TermTree}
 use Rattle.gv_terms.specs.Trees.{sort_of}
 use Rattle.gv_world.specs.Store.{Store as World}
-use Rattle.gv_lang.specs.Tree.{Expr, Let, Load, Store, Do, Program}
+use Rattle.gv_lang.specs.Tree.{Expr, Let, Load, Store, Do, Program, Lock, Unlock}
 use Rattle.gv_lang.specs.Todo.{Todo, Run}
 use Rattle.gv_lang.specs.Threads.{Frame}
 use Rattle.gv_lang.specs.Step.{Stepped, GoesOn, stepped}
@@ -16,7 +16,7 @@ use Rattle.gv_resources.specs.Kinds as kind
 use Rattle.gv_resources.specs.Kinds.{cell_kind}
 use Rattle.gv_resources.specs.Pieces.{Piece}
 use Rattle.gv_resources.specs.Ghost.{Ghost}
-use Rattle.gv_assertions.specs.Atoms.{Atom, Owns, Takes}
+use Rattle.gv_assertions.specs.Atoms.{Atom, Owns, Instance, Takes}
 use Rattle.gv_assertions.specs.Kept.{IsPersistent}
 use Rattle.gv_seats.specs.Paths.{Path, term_of, number, goes_on}
 use Rattle.gv_seats.specs.Seats.{Proof, Seat, BegunSeat}
@@ -95,3 +95,19 @@ pub data Stores (h : Path) : Path → Type 0 where
       → term_of h.locals e ≡ Some t → (s : Sort) → sort_of t ≡ Some s → sort_of v ≡ Some s → IsLocalSort s
       → Replaces h.atoms (Owns kind.Cell (object ∷ number field ∷ []) (v ∷ [])) (Owns kind.Cell (object ∷ number field ∷ []) (t ∷ [])) atoms
       → Stores h (goes_on h rest h.locals atoms)
+
+-- Lock m: what the mutex guards is there, and that it is held; the step waits where it is locked
+pub data Locks (h : Path) : Path → Type 0 where
+  locks_mutex : (m : Expr) (object : TermTree) (pred : ℕ) (args : List TermTree) (left : List Atom) (place : Place) (rest : Todo)
+      → h.todo ≡ Run (Do (Lock m) place) ∷ rest → term_of h.locals m ≡ Some object → sort_of object ≡ Some sort.Ref
+      → Takes h.atoms (Owns kind.Lock (object ∷ []) (number pred ∷ args)) left
+      → Locks h (goes_on h rest h.locals (Instance pred args ∷ Owns kind.Held (object ∷ []) [] ∷ h.atoms))
+
+-- Unlock m: what the mutex guards, and that it is held, are given up
+pub data Unlocks (h : Path) : Path → Type 0 where
+  unlocks_mutex : (m : Expr) (object : TermTree) (pred : ℕ) (args : List TermTree) (known without left : List Atom) (place : Place) (rest : Todo)
+      → h.todo ≡ Run (Do (Unlock m) place) ∷ rest → term_of h.locals m ≡ Some object → sort_of object ≡ Some sort.Ref
+      → Takes h.atoms (Owns kind.Lock (object ∷ []) (number pred ∷ args)) known
+      → Takes h.atoms (Owns kind.Held (object ∷ []) []) without
+      → Takes without (Instance pred args) left
+      → Unlocks h (goes_on h rest h.locals left)

@@ -1,6 +1,6 @@
 //! Laws of the definitions in this crate. Each function does nothing: its contract is the law.
 
-ghost use Rattle.gv_seats.specs.Laws.{CopiesLaw, ExpressionsLaw, LetsLaw, LoadsLaw, StoresLaw};
+ghost use Rattle.gv_seats.specs.Laws.{CopiesLaw, ExpressionsLaw, LetsLaw, LoadsLaw, LocksLaw, StoresLaw, UnlocksLaw};
 
 /// An expression over locals has the value of its term.
 pub fn expression_values()
@@ -25,4 +25,14 @@ pub fn loads_sound()
 /// Writing a cell that is owned is sound beside every rest, in both of its steps: others may step in between.
 pub fn stores_sound()
     ensures { StoresLaw }
+{}
+
+/// Locking a mutex waits, or gives what the mutex guards, whatever others own.
+pub fn locks_sound()
+    ensures { LocksLaw }
+{}
+
+/// Unlocking a mutex that is held is never undefined, and gives up what the mutex guards.
+pub fn unlocks_sound()
+    ensures { UnlocksLaw }
 {}

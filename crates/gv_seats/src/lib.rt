@@ -3,4 +3,4 @@
 
 mod laws;
 
-pub use laws::{copies_sound, expression_values, lets_sound, loads_sound, stores_sound};
+pub use laws::{copies_sound, expression_values, lets_sound, loads_sound, locks_sound, stores_sound, unlocks_sound};

@@ -1,0 +1,5 @@
+use Rattle.gv_seats.proofs.Locks.{unlocks_law}
+use Rattle.gv_seats.proofs.laws.unlocks_sound.Goals as goal
+
+pub returns : goal.returns
+returns c = unlocks_law
