@@ -30,7 +30,7 @@ module _ (preds : List Predicate) (env : Env) (index : List ℕ) where
         (λ e. let s = sums e in let a = sum_split (number_under env high) (λ n. parts n e) k below in let b = sum_changed (number_under env high) (λ n. parts n e) k 0 below in omega arith),
         stands k from below free,
         ranged low high (t ∷ except) a (λ e. sum_below (number_under env high) (λ n. left n e)) left (λ e. omega arith)
-          (λ n l h f. more_for (λ e. let s = piece_elsewhere parts k n (λ e. 0) e f.0 in omega arith) (stands n l h f.1)),
+            (λ n l h f. more_for (λ e. let s = piece_elsewhere parts k n (λ e. 0) e f.0 in omega arith) (stands n l h f.1)),
       )
 
   put : (low high t : TermTree) (except : List TermTree) (a : Atom) (p q r : Piece) → number_under env t < number_under env high → AreParts q r p
@@ -40,12 +40,12 @@ module _ (preds : List Predicate) (env : Env) (index : List ℕ) where
       let k = number_under env t in
       let all = with_piece parts k q in
       ranged low high except a p all
-        (λ e. let s = sums e in let l = split e in let a = sum_split (number_under env high) (λ n. parts n e) k below in let b = sum_changed (number_under env high) (λ n. parts n e) k (q e) below in omega arith)
-        (λ n l h f. elim (number_test n k) [
-          | inl (same, b) ↦ more_for (λ e. let s : with_piece parts k q n e ≡ q e = rw same (piece_there parts k q e) in omega arith)
-              (subst (λ j. StandsFor preds (indexed env index j) a q) (sym same) one)
-          | inr (ne, b) ↦ more_for (λ e. let s = piece_elsewhere parts k n q e ne in omega arith) (stands n l h (ne, f))
-        ])
+      (λ e. let s = sums e in let l = split e in let a = sum_split (number_under env high) (λ n. parts n e) k below in let b = sum_changed (number_under env high) (λ n. parts n e) k (q e) below in omega arith)
+      (λ n l h f. elim (number_test n k) [
+        | inl (same, b) ↦ more_for (λ e. let s : with_piece parts k q n e ≡ q e = rw same (piece_there parts k q e) in omega arith)
+            (subst (λ j. StandsFor preds (indexed env index j) a q) (sym same) one)
+        | inr (ne, b) ↦ more_for (λ e. let s = piece_elsewhere parts k n q e ne in omega arith) (stands n l h (ne, f))
+      ])
 
   split : (low mid high : TermTree) (a : Atom) (p : Piece) → number_under env low ≤ number_under env mid → number_under env mid ≤ number_under env high
       → StandsFor preds env (Each index low high [] a) p
@@ -58,7 +58,7 @@ module _ (preds : List Predicate) (env : Env) (index : List ℕ) where
         (λ e. let s = sums e in let c = sum_cut (number_under env high) m (λ n. parts n e) inside in omega arith),
         ranged low mid [] a (λ e. sum_below m (λ n. parts n e)) parts (λ e. omega arith) (λ n l h f. stands n l (omega arith) tt),
         ranged mid high [] a (λ e. sum_below (number_under env high) (λ n. upper n e)) upper (λ e. omega arith)
-          (λ n l h f. more_for (λ e. let s : upper n e ≡ parts n e = grind arith in omega arith) (stands n (omega arith) h tt)),
+            (λ n l h f. more_for (λ e. let s : upper n e ≡ parts n e = grind arith in omega arith) (stands n (omega arith) h tt)),
       )
 
   join : (low mid high : TermTree) (a : Atom) (p q r : Piece) → AreParts q r p → StandsFor preds env (Each index low mid [] a) q
@@ -68,12 +68,12 @@ module _ (preds : List Predicate) (env : Env) (index : List ℕ) where
       let n = number_under env high in
       let mixed = λ (k : ℕ) (e : Resource). if nat_lt k m then parts k e else others k e in
       ranged low high [] a p mixed
-        (λ e. let a = sums e in let b = more_sums e in let c = split e in let d = sum_mixed n m (λ k. parts k e) (λ k. others k e) in
-          let f = sum_fewer m (min n m) (λ k. parts k e) (omega arith) in omega arith)
-        (λ k l h f. elim (below_test k m) [
-          | inl (b, t) ↦ more_for (λ e. let s : mixed k e ≡ parts k e = rw t refl in omega arith) (stands k l b tt)
-          | inr (b, t) ↦ more_for (λ e. let s : mixed k e ≡ others k e = rw t refl in omega arith) (more_stands k b h tt)
-        ])
+      (λ e. let a = sums e in let b = more_sums e in let c = split e in let d = sum_mixed n m (λ k. parts k e) (λ k. others k e) in
+      let f = sum_fewer m (min n m) (λ k. parts k e) (omega arith) in omega arith)
+      (λ k l h f. elim (below_test k m) [
+        | inl (b, t) ↦ more_for (λ e. let s : mixed k e ≡ parts k e = rw t refl in omega arith) (stands k l b tt)
+        | inr (b, t) ↦ more_for (λ e. let s : mixed k e ≡ others k e = rw t refl in omega arith) (more_stands k b h tt)
+      ])
 
   empty : (low high : TermTree) (except : List TermTree) (a : Atom) (p : Piece) → number_under env high ≤ number_under env low
       → StandsFor preds env (Each index low high except a) p

@@ -13,7 +13,7 @@ mutual
     of_spare : {s : TermTree} → keeps kind.Item ≡ true → IsOfKinds keeps preds (Spare s)
     of_instance : {number : ℕ} {args : List TermTree}
         → ((pred : Predicate) (place : ℕ) (case : Case) → slice_get preds number ≡ Some pred → slice_get pred.cases place ≡ Some case
-          → AreOfKinds keeps preds (atoms_of case.items))
+        → AreOfKinds keeps preds (atoms_of case.items))
         → IsOfKinds keeps preds (Instance number args)
     of_each : {index : List ℕ} {low high : TermTree} {except : List TermTree} {a : Atom} → IsOfKinds keeps preds a
         → IsOfKinds keeps preds (Each index low high except a)

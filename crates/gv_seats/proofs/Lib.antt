@@ -7,3 +7,4 @@ pub mod Objects
 pub mod Telling
 pub mod Stores
 pub mod Locks
+pub mod Instances

@@ -158,9 +158,9 @@ module _ (program : Program) (extra : ℕ) (w : World) (f : Frame) (below : List
   load_step x p of field place next n v is found read =
       subst (λ (todo : Todo). stepped program extra (resting (at todo) below) w ≡ left_with program extra w f below x v next) (sym is)
       (subst (λ (r : Option Val). and_then (and_then (as_ref r) (λ o. and_then (read_cell w o field) (λ u. sets w f.locals x u)))
-          (settled (resting (at (Run (Do (Load x p of field) place) ∷ next)) below) w (Some next)) ≡ left_with program extra w f below x v next) (sym found)
+      (settled (resting (at (Run (Do (Load x p of field) place) ∷ next)) below) w (Some next)) ≡ left_with program extra w f below x v next) (sym found)
       (subst (λ (a : Answer Val). and_then (and_then a (λ u. sets w f.locals x u)) (settled (resting (at (Run (Do (Load x p of field) place) ∷ next)) below) w (Some next))
-          ≡ left_with program extra w f below x v next) (sym read) refl))
+      ≡ left_with program extra w f below x v next) (sym read) refl))
 
 pub cell_key : (x y : Value) (n field : ℕ) → x ≡ val.Ref n → y ≡ val.Word field → x ∷ y ∷ [] ≡ val.Ref n ∷ val.Word field ∷ []
 cell_key x y n field e d = rw (e, d) refl
@@ -187,10 +187,10 @@ loads_law o h k (loads x p object v of field frozen left place next todo l term 
     let says = seat.base.fits.says (cell_kind frozen) (val.Ref n ∷ val.Word field ∷ []) xs (omega arith) in
     let found = cell_told o.shape w g frozen n field (value_under seat.env v) says in
     let still = unmarked_is found.cell.marked (λ m. nobody o.shape w g whole seat.base.fits n field frozen xs mine rest (λ e. let d = split e in omega arith) has
-        (seat.still.cells n field (ap is_marked found.there ∙ m))) in
+    (seat.still.cells n field (ap is_marked found.there ∙ m))) in
     let read = reads w n field found.cell found.there still in
     let ref_is = as_ref_is ref n (p_is ∙ ap Some object_is) in
     let step = load_step program extra w f below x p of field place next n (as_read found.cell.value) (seat.described.todo ∙ todo) (p_found ∙ ap Some ref_is) read in
     subst (λ (answer : Answer Stepped). Goes o g below (goes_on h next (slice_set h.locals x (Some v)) h.atoms) rest answer) (sym step)
     (goes (seat_set o w g f h rest x v (as_read found.cell.value) next seat l
-      (read_plain found.cell.value (value_under seat.env v) s found.is (values_have_sorts seat.env v s v_sort) local)))
+    (read_plain found.cell.value (value_under seat.env v) s found.is (values_have_sorts seat.env v s v_sort) local)))

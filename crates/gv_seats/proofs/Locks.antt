@@ -36,9 +36,10 @@ use Rattle.gv_terms.specs.Values.{bool_eq}
 use Rattle.std.specs.Prelude.{◌&&◌}
 use Rattle.gv_resources.proofs.Fitting.{retold, retold_test}
 use Rattle.gv_resources.proofs.Sums.{number_test}
-use Rattle.gv_assertions.specs.Atoms.{Owns, Instance, Predicate, facts_of, atoms_of}
-use Rattle.gv_assertions.specs.Standing.{StandsFor, StandForAll, AreTrueUnder, owns, instance, both, case_env, valued}
+use Rattle.gv_assertions.specs.Atoms.{Owns, Instance, Predicate}
+use Rattle.gv_assertions.specs.Standing.{StandsFor, owns, both, valued}
 use Rattle.gv_assertions.proofs.Lists.{front, parted, more_for}
+use Rattle.gv_seats.proofs.Instances.{at_values}
 use Rattle.gv_seats.proofs.Locals.{set_there, set_elsewhere, set_length}
 use Rattle.gv_seats.proofs.Telling.{under_same}
 use Rattle.gv_seats.proofs.Expressions.{expressions_law}
@@ -182,15 +183,6 @@ module _ (z : Shape) (g : Ghost) (w : World) (object : ℕ) (b c : Bool) (h : Ha
       rest kind.Lock key ne = under_same (object_of key) _ _ guards_same
       rest _ key ne = refl
 
--- ---- a predicate at the same values
-
-at_values : (preds : List Predicate) (env other : Env) (number : ℕ) (args given : List TermTree) (p : Piece) → valued other given ≡ valued env args
-    → StandsFor preds env (Instance number args) p → StandsFor preds other (Instance number given) p
-at_values preds env other number args given p same (instance pred place case own is_pred is_case values facts stands) =
-    instance pred place case own is_pred is_case values
-      (subst (λ (xs : List Value). AreTrueUnder (case_env pred case xs own) (facts_of case.items)) (sym same) facts)
-      (subst (λ (xs : List Value). StandForAll preds (case_env pred case xs own) (atoms_of case.items) p) (sym same) stands)
-
 -- ---- what a lock says
 
 some_same : {A : Type 0} (x y : A) → Some x ≡ Some y → x ≡ y
@@ -322,13 +314,13 @@ locking o h m object pred args place next todo program extra w g f below rest se
     let later : Piece = λ r. held r + (seat.locks n r + seat.piece r) in
     let without : Piece = λ r. 0 in
     let none_held : told o.shape w g kind.Held (val.Ref n ∷ []) ≡ None =
-        ap (λ x. held_mutex x (g.guards n)) (ap locked_in (ap (object_at w) mutex.number ∙ mutex.there)) ∙ ap (held_mutex (Some false)) a.guards in
+    ap (λ x. held_mutex x (g.guards n)) (ap locked_in (ap (object_at w) mutex.number ∙ mutex.there)) ∙ ap (held_mutex (Some false)) a.guards in
     let stands : StandsFor o.preds seat.env (Instance pred args) (seat.locks n) =
-        subst (λ (k : ℕ). StandsFor o.preds seat.env (Instance k args) (seat.locks n)) a.is_pred
-        (seat.base.free n a.guard a.guards (ap locked_in (ap (object_at w) mutex.number ∙ mutex.there)) seat.env args (sym a.are_values)) in
+    subst (λ (k : ℕ). StandsFor o.preds seat.env (Instance k args) (seat.locks n)) a.is_pred
+    (seat.base.free n a.guard a.guards (ap locked_in (ap (object_at w) mutex.number ∙ mutex.there)) seat.env args (sym a.are_values)) in
     let fits : Fits (λ r. later r + (seat.pool r + (of_locks after (with_piece seat.locks n without) r + rest r))) _ =
-        fits_add kind.Held (val.Ref n ∷ []) [] seat.base.fits none_held (λ q. let z : Some 1 ≡ Some 0 = q in cc)
-        (λ r. let x = locks_before w seat.locks n false true mutex without r in let y = locks_after w seat.locks n false true mutex without r in omega arith) in
+    fits_add kind.Held (val.Ref n ∷ []) [] seat.base.fits none_held (λ q. let z : Some 1 ≡ Some 0 = q in cc)
+    (λ r. let x = locks_before w seat.locks n false true mutex without r in let y = locks_after w seat.locks n false true mutex without r in omega arith) in
     subst (λ (answer : Answer Stepped). Goes o g below (goes_on h next h.locals (Instance pred args ∷ Owns kind.Held (object ∷ []) [] ∷ h.atoms)) rest answer) (sym step) (goes (record {
       env = seat.env;
       piece = later;
@@ -342,7 +334,7 @@ locking o h m object pred args place next todo program extra w g f below rest se
         stands = both (seat.locks n) (λ r. held r + seat.piece r) (λ r. omega arith) stands (both held seat.piece (λ r. omega arith) (held_stands o.preds seat.env object n object_is) seat.described.stands);
       };
       base = base_with_mutex o w g h.mode h.bracket seat.piece later seat.pool seat.locks rest n false true mutex without seat.base
-        (fits_same (told_held o.shape g w n false true mutex a.guard a.guards) fits) (λ q guard is. absurd cc);
+          (fits_same (told_held o.shape g w n false true mutex a.guard a.guards) fits) (λ q guard is. absurd cc);
       still = still_owned w n false true mutex rest seat.still;
     }))
 
@@ -354,8 +346,8 @@ locks_law o h k (locks_mutex m object pred args left place next todo term object
     let m_value : value f.locals m ≡ Some (stored.Ref n) = m_found ∙ ap Some ref_is in
     let (q, r, split, stands, others) = parted (front takes seat.described.stands) in
     let has : 0 < q (Have kind.Lock (val.Ref n ∷ []) (val.Word pred ∷ valued seat.env args)) =
-        subst (λ (vs : List Value). 0 < q (Have kind.Lock (val.Ref n ∷ []) vs)) (first_is seat.env pred args)
-        (subst (λ (key : List Value). 0 < q (Have kind.Lock key (valued seat.env (number pred ∷ args)))) (object_key (value_under seat.env object) n object_is) (owned_at stands)) in
+    subst (λ (vs : List Value). 0 < q (Have kind.Lock (val.Ref n ∷ []) vs)) (first_is seat.env pred args)
+    (subst (λ (key : List Value). 0 < q (Have kind.Lock key (valued seat.env (number pred ∷ args)))) (object_key (value_under seat.env object) n object_is) (owned_at stands)) in
     let within = split (Have kind.Lock (val.Ref n ∷ []) (val.Word pred ∷ valued seat.env args)) in
     let a = guarded w g n pred (valued seat.env args) (seat.base.fits.says kind.Lock (val.Ref n ∷ []) (val.Word pred ∷ valued seat.env args) (omega arith)) in
     locking o h m object pred args place next todo program extra w g f below rest seat n object_is m_value a.locked a refl
@@ -381,8 +373,8 @@ unlocks_law o h k (unlocks_mutex m object pred args known without left place nex
     let key : List Value = val.Ref n ∷ [] in
     let lock_value : List Value = val.Word pred ∷ valued seat.env args in
     let lock_has : 0 < q (Have kind.Lock key lock_value) =
-        subst (λ (vs : List Value). 0 < q (Have kind.Lock (val.Ref n ∷ []) vs)) (first_is seat.env pred args)
-        (subst (λ (key : List Value). 0 < q (Have kind.Lock key (valued seat.env (number pred ∷ args)))) (object_key (value_under seat.env object) n object_is) (owned_at lock_stands)) in
+    subst (λ (vs : List Value). 0 < q (Have kind.Lock (val.Ref n ∷ []) vs)) (first_is seat.env pred args)
+    (subst (λ (key : List Value). 0 < q (Have kind.Lock key (valued seat.env (number pred ∷ args)))) (object_key (value_under seat.env object) n object_is) (owned_at lock_stands)) in
     let held_has : 0 < held (Have kind.Held key []) = subst (λ (key : List Value). 0 < held (Have kind.Held key [])) (object_key (value_under seat.env object) n object_is) (owned_at held_is) in
     let lock_within = split (Have kind.Lock key lock_value) in
     let held_within = held_split (Have kind.Held key []) in
@@ -391,9 +383,9 @@ unlocks_law o h k (unlocks_mutex m object pred args known without left place nex
     let after = with_mutex w n false in
     let step = unlock_step program extra w f below m place next n m_value after (seat.described.todo ∙ todo) (unlocks_locked w n mutex) in
     let fits : Fits (λ e. u e + (seat.pool e + (of_locks after (with_piece seat.locks n case_piece) e + rest e))) _ =
-        fits_remove kind.Held key [] None seat.base.fits refl
-        (λ e. let x = locks_before w seat.locks n true false mutex case_piece e in let y = locks_after w seat.locks n true false mutex case_piece e in
-          let l = held_split e in let m = case_split e in let s = single_within (Have kind.Held key []) held held_has e in omega arith) in
+    fits_remove kind.Held key [] None seat.base.fits refl
+    (λ e. let x = locks_before w seat.locks n true false mutex case_piece e in let y = locks_after w seat.locks n true false mutex case_piece e in
+    let l = held_split e in let m = case_split e in let s = single_within (Have kind.Held key []) held held_has e in omega arith) in
     subst (λ (answer : Answer Stepped). Goes o g below (goes_on h next h.locals left) rest answer) (sym step) (goes (record {
       env = seat.env;
       piece = u;
@@ -407,8 +399,8 @@ unlocks_law o h k (unlocks_mutex m object pred args known without left place nex
         stands = left_stand;
       };
       base = base_with_mutex o w g h.mode h.bracket seat.piece u seat.pool seat.locks rest n true false mutex case_piece seat.base
-        (fits_same (told_held o.shape g w n true false mutex a.guard a.guards) fits)
-        (λ free guard is env given values.
+          (fits_same (told_held o.shape g w n true false mutex a.guard a.guards) fits)
+          (λ free guard is env given values.
           let same : a.guard ≡ guard = some_same a.guard guard (sym a.guards ∙ is) in
           let is_pred : pred ≡ guard.0 = sym a.is_pred ∙ ap (λ (x : ℕ × List Value). x.0) same in
           let are_values : valued env given ≡ valued seat.env args = values ∙ sym (ap (λ (x : ℕ × List Value). x.1) same) ∙ a.are_values in

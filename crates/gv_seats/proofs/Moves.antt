@@ -1,17 +1,19 @@
 -- Moves: what is persistent is copied.
-use Rattle.std.proofs.Common.{◌≡◌, ℕ, ◌+◌, ◌<◌, ◌≤◌, Bool, true, false, if◌then◌else◌, List, Some, refl, arith}
+use Rattle.std.proofs.Common.{◌≡◌, ℕ, ◌+◌, ◌<◌, ◌≤◌, Bool, true, false, if◌then◌else◌, List, Some, refl, arith, []}
 use Rattle.gv_terms.specs.declared.value.Value.{Value}
 use Rattle.gv_world.specs.Store.{Store as World}
 use Rattle.gv_resources.specs.Kinds.{Kind, FrozenCell, FrozenItem, Lock, Down, most, is_persistent}
 use Rattle.gv_resources.specs.Pieces.{Resource, Have, Piece, Telling, Fits, part_of}
 use Rattle.gv_resources.specs.Ghost.{Ghost}
 use Rattle.gv_assertions.specs.Standing.{both}
+use Rattle.gv_resources.proofs.Fitting.{fits_less}
 use Rattle.gv_assertions.proofs.Lists.{front, parted}
 use Rattle.gv_assertions.proofs.Kept.{part_for}
-use Rattle.gv_seats.specs.Paths.{Path}
+use Rattle.gv_seats.proofs.Instances.{at_values}
+use Rattle.gv_seats.specs.Paths.{Path, Closed, Opened}
 use Rattle.gv_seats.specs.Seats.{Proof, Base}
-use Rattle.gv_seats.specs.Rules.{copies}
-use Rattle.gv_seats.specs.Laws.{CopiesLaw}
+use Rattle.gv_seats.specs.Rules.{copies, opens, closes}
+use Rattle.gv_seats.specs.Laws.{CopiesLaw, OpensLaw, ClosesLaw}
 
 -- what may be owned so many times only isn't persistent
 few_is_owned : (k : Kind) (n : ℕ) → most k ≡ Some n → is_persistent k ≡ false
@@ -61,19 +63,81 @@ base_copied o w g h piece part pool locks rest within base = record {
 
 pub copies_law : CopiesLaw
 copies_law o h k (copies a left takes persistent) w g f rest s =
-    let (q, r, split, stands, others) = parted (front takes s.described.stands) in
-    (g, record {
-      env = s.env;
-      piece = λ e. part_of is_persistent q e + s.piece e;
-      pool = s.pool;
-      locks = s.locks;
-      described = record {
-        todo = s.described.todo;
-        as_many = s.described.as_many;
-        locals = s.described.locals;
-        facts = s.described.facts;
-        stands = both (part_of is_persistent q) s.piece (λ e. omega arith) (part_for persistent stands) s.described.stands;
-      };
-      base = base_copied o w g h s.piece q s.pool s.locks rest (λ e. let l = split e in omega arith) s.base;
-      still = s.still;
-    })
+    let (q, r, split, stands, others) = parted (front takes s.described.stands) in (
+      g,
+      record {
+        env = s.env;
+        piece = λ e. part_of is_persistent q e + s.piece e;
+        pool = s.pool;
+        locks = s.locks;
+        described = record {
+          todo = s.described.todo;
+          as_many = s.described.as_many;
+          locals = s.described.locals;
+          facts = s.described.facts;
+          stands = both (part_of is_persistent q) s.piece (λ e. omega arith) (part_for persistent stands) s.described.stands;
+        };
+        base = base_copied o w g h s.piece q s.pool s.locks rest (λ e. let l = split e in omega arith) s.base;
+        still = s.still;
+      },
+    )
+
+-- ---- the crash invariant
+
+pub opens_law : OpensLaw
+opens_law o h k (opens shared closed) w g f rest s = (
+  g,
+  record {
+    env = s.env;
+    piece = λ e. s.pool e + s.piece e;
+    pool = λ e. 0;
+    locks = s.locks;
+    described = record {
+      todo = s.described.todo;
+      as_many = s.described.as_many;
+      locals = s.described.locals;
+      facts = s.described.facts;
+      stands = both s.pool s.piece (λ e. omega arith) (s.base.crash shared closed s.env [] refl) s.described.stands;
+    };
+    base = record {
+      fits = fits_less (λ e. omega arith) s.base.fits;
+      crash = λ m b. absurd (is_opened b);
+      free = s.base.free;
+      fresh = s.base.fresh;
+      blocks = s.base.blocks;
+      walked = s.base.walked;
+    };
+    still = s.still;
+  },
+)
+  where
+    is_opened : Opened ≡ Closed → ⊥
+    is_opened e = cc
+
+pub closes_law : ClosesLaw
+closes_law o h k (closes left not_closed takes) w g f rest s =
+    let (q, r, split, stands, others) = parted (front takes s.described.stands) in (
+      g,
+      record {
+        env = s.env;
+        piece = r;
+        pool = q;
+        locks = s.locks;
+        described = record {
+          todo = s.described.todo;
+          as_many = s.described.as_many;
+          locals = s.described.locals;
+          facts = s.described.facts;
+          stands = others;
+        };
+        base = record {
+          fits = fits_less (λ e. let l = split e in omega arith) s.base.fits;
+          crash = λ m b env args values. at_values o.preds s.env env o.crash [] args q values stands;
+          free = s.base.free;
+          fresh = s.base.fresh;
+          blocks = s.base.blocks;
+          walked = s.base.walked;
+        };
+        still = s.still;
+      },
+    )

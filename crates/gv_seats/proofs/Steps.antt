@@ -83,7 +83,7 @@ module _ (program : Program) (extra : ℕ) (w : World) (f : Frame) (below : List
   let_step x e place next v is found =
       subst (λ (todo : Todo). stepped program extra (resting (at todo) below) w ≡ left_with x v next) (sym is)
       (subst (λ (r : Option Val). and_then (and_then (as_value r) (λ u. sets w f.locals x u)) (settled (resting (at (Run (Do (Let x e) place) ∷ next)) below) w (Some next))
-        ≡ left_with x v next) (sym found) refl)
+      ≡ left_with x v next) (sym found) refl)
 
 pub lets_law : LetsLaw
 lets_law o h k (lets x e t s place next todo l term sorted) program extra w g f below rest seat =

@@ -146,7 +146,7 @@ module _ (program : Program) (extra : ℕ) (w : World) (f : Frame) (below : List
       → stepped program extra (thread true f) w ≡ Next (GoesOn after (thread false (record f { todo = next })) [])
   second_step after ended = to_row true (Next (GoesOn after (thread false (record f { todo = next })) []))
       (subst (λ (a : Answer World). and_then (and_then a (λ x. Next (table.Goes x f.locals))) (settled (thread true (at (Run (Do (Store p of field e) place) ∷ next))) w (Some next))
-        ≡ Next (GoesOn after (thread false (record f { todo = next })) [])) (sym ended) refl)
+      ≡ Next (GoesOn after (thread false (record f { todo = next })) [])) (sym ended) refl)
 
 -- ---- what else holds in a world with one cell given anew
 
@@ -180,7 +180,7 @@ new_unmarked : (w : World) (n field : ℕ) (c d : Cell) (h : HasCell w n field c
     → IsMarkedCell (with_cell w n field h.cells d) object place → ⊥
 new_unmarked w n field c d h free object place a b marked =
     let here : IsMarkedCell (with_cell w n field h.cells d) n field =
-        subst (λ i. IsMarkedCell (with_cell w n field h.cells d) n i) b (subst (λ k. IsMarkedCell (with_cell w n field h.cells d) k place) a marked) in
+    subst (λ i. IsMarkedCell (with_cell w n field h.cells d) n i) b (subst (λ k. IsMarkedCell (with_cell w n field h.cells d) k place) a marked) in
     let both : d.marked ≡ true = sym (ap is_marked (cell_there w n field c d h)) ∙ here in
     let never : false ≡ true = sym free ∙ both in
     cc
@@ -223,8 +223,8 @@ new_cell_stands : (preds : List Predicate) (env : Env) (object t : TermTree) (n 
     → x ≡ value_under env t → StandsFor preds env (Owns kind.Cell (object ∷ number field ∷ []) (t ∷ [])) (single (Have kind.Cell (val.Ref n ∷ val.Word field ∷ []) (x ∷ [])))
 new_cell_stands preds env object t n field x key is =
     owns (subst (λ (k : List Value). 0 < single (Have kind.Cell (val.Ref n ∷ val.Word field ∷ []) (x ∷ [])) (Have kind.Cell k (value_under env t ∷ []))) (sym key)
-      (subst (λ (y : Value). 0 < single (Have kind.Cell (val.Ref n ∷ val.Word field ∷ []) (x ∷ [])) (Have kind.Cell (val.Ref n ∷ val.Word field ∷ []) (y ∷ []))) is
-        (let s = single_same (Have kind.Cell (val.Ref n ∷ val.Word field ∷ []) (x ∷ [])) in omega arith)))
+    (subst (λ (y : Value). 0 < single (Have kind.Cell (val.Ref n ∷ val.Word field ∷ []) (x ∷ [])) (Have kind.Cell (val.Ref n ∷ val.Word field ∷ []) (y ∷ []))) is
+    (let s = single_same (Have kind.Cell (val.Ref n ∷ val.Word field ∷ []) (x ∷ [])) in omega arith)))
 
 pub stores_law : StoresLaw
 stores_law o h k (stores p e object v t of field after place next todo p_term object_sort e_term s t_sort v_sort local replaces) = record { begin = begin; end = end }
@@ -235,7 +235,7 @@ stores_law o h k (stores p e object v t of field after place next todo p_term ob
         let a = facts o h p e object v t field after s w g f seat.env seat.piece seat.pool seat.locks rest p_term object_sort e_term t_sort replaces seat.described seat.base in
         let whole : Piece = λ e. seat.piece e + (seat.pool e + (of_locks w seat.locks e + rest e)) in
         let still = unmarked_is a.found.cell.marked (λ m. nobody o.shape w g whole seat.base.fits a.n field false (value_under seat.env v ∷ []) a.parts.first rest
-            (λ e. let d = a.parts.split e in omega arith) a.has (seat.still.cells a.n field (ap is_marked a.found.there ∙ m))) in
+        (λ e. let d = a.parts.split e in omega arith) a.has (seat.still.cells a.n field (ap is_marked a.found.there ∙ m))) in
         let marked = with_mark true a.found.cell in
         let begun = begins_cell w a.n field a.found.cell a.there still in
         let step = first_step program extra w f below p e of field place next a.n a.given (seat.described.todo ∙ todo) a.p_value a.e_value (with_cell w a.n field a.there.cells marked) begun in
@@ -248,7 +248,7 @@ stores_law o h k (stores p e object v t of field after place next todo p_term ob
           locks = seat.locks;
           described = seat.described;
           base = base_with_cell o w g h.mode h.bracket seat.piece seat.piece seat.pool seat.locks rest a.n field a.found.cell marked a.there seat.base
-            (fits_same (told_same o.shape g w a.n field a.found.cell marked a.there refl a.found.there) seat.base.fits);
+              (fits_same (told_same o.shape g w a.n field a.found.cell marked a.there refl a.found.there) seat.base.fits);
           object = a.n;
           place = field;
           writes = writes_cell p of field e place next a.n (seat.described.todo ∙ todo) a.p_value;
@@ -268,8 +268,8 @@ stores_law o h k (stores p e object v t of field after place next todo p_term ob
         let new : Cell = record { value = a.given; marked = false } in
         let written = written_is a.found.cell.value a.given (value_under seat.env v) s a.found.is (values_have_sorts seat.env v s v_sort) local in
         let ended : end_write w a.n field (a.given ∷ []) ≡ Next (with_cell w a.n field a.there.cells new) =
-            ends_cell w a.n field a.found.cell a.given a.there
-            ∙ ap (λ (u : Val). Next (with_cell w a.n field a.there.cells (record { value = u; marked = false }))) written in
+        ends_cell w a.n field a.found.cell a.given a.there
+        ∙ ap (λ (u : Val). Next (with_cell w a.n field a.there.cells (record { value = u; marked = false }))) written in
         let step = second_step program extra w f below p e of field place next a.n a.given (seat.described.todo ∙ todo) a.p_value a.e_value (with_cell w a.n field a.there.cells new) ended in
         let others = a.parts.others in
         let later : Piece = λ r. single (Have kind.Cell key (x ∷ [])) r + others r in
@@ -278,8 +278,8 @@ stores_law o h k (stores p e object v t of field after place next todo p_term ob
         let has = a.has in
         let target = writes_same f seat.object seat.place p e of field place next a.n seat.writes (seat.described.todo ∙ todo) a.p_value in
         let changed : Fits (λ r. later r + (seat.pool r + (of_locks w seat.locks r + rest r))) _ =
-            fits_change kind.Cell key (value_under seat.env v ∷ []) (x ∷ []) seat.base.fits refl
-            (λ r. let l = a.parts.split r in let m = single_within (Have kind.Cell key (value_under seat.env v ∷ [])) a.parts.first a.has r in omega arith) (omega arith) in
+        fits_change kind.Cell key (value_under seat.env v ∷ []) (x ∷ []) seat.base.fits refl
+        (λ r. let l = a.parts.split r in let m = single_within (Have kind.Cell key (value_under seat.env v ∷ [])) a.parts.first a.has r in omega arith) (omega arith) in
         subst (λ (answer : Answer Stepped). Goes o g below (goes_on h next h.locals after) rest answer) (sym step) (goes (record {
           env = seat.env;
           piece = later;
@@ -293,7 +293,7 @@ stores_law o h k (stores p e object v t of field after place next todo p_term ob
             stands = a.parts.again (single (Have kind.Cell key (x ∷ []))) later (λ r. omega arith) (new_cell_stands o.preds seat.env object t a.n field x a.key (value_is a.given (value_under seat.env t) a.given_is));
           };
           base = base_after o (with_cell w a.n field a.there.cells new) g h.mode h.bracket later seat.pool seat.locks rest
-            (base_with_cell o w g h.mode h.bracket seat.piece later seat.pool seat.locks rest a.n field a.found.cell new a.there seat.base
+              (base_with_cell o w g h.mode h.bracket seat.piece later seat.pool seat.locks rest a.n field a.found.cell new a.there seat.base
               (fits_same (told_after o.shape g w a.n field a.found.cell new a.there (value_under seat.env v ∷ []) a.told_so) changed));
           still = record {
             cells = λ object i m. elim (marked_before w a.n field a.found.cell new a.there object i m) [

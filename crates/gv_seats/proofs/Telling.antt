@@ -30,7 +30,7 @@ module _ (z : Shape) (g : Ghost) (w : World) (object place : ℕ) (c d : Cell) (
     | inl (e, b) ↦ elim (number_test i place) [
       | inl (f, t) ↦
           let now : in_cell (slice_get (cells_in (object_at after object)) place) ≡ in_cell (slice_get (cells_in (object_at w object)) place) =
-              ap in_cell (cell_there w object place c d h) ∙ ap (λ (x : Value). Some (x ∷ [])) same ∙ sym (ap in_cell before) in
+          ap in_cell (cell_there w object place c d h) ∙ ap (λ (x : Value). Some (x ∷ [])) same ∙ sym (ap in_cell before) in
           rw (e, f) now
       | inr (ne, t) ↦ ap in_cell (cell_elsewhere w object place c d h o i (λ q. ne))
     ]

@@ -9,7 +9,7 @@ use Rattle.gv_lang.specs.Tree.{Expr}
 use Rattle.gv_lang.specs.Values.{value}
 use Rattle.gv_seats.specs.Paths.{Path, term_of}
 use Rattle.gv_seats.specs.Seats.{Proof, HaveValues, plain}
-use Rattle.gv_seats.specs.Rules.{IsSoundMove, IsSoundStep, IsSoundWrite, Copies, Lets, Loads, Stores, Locks, Unlocks}
+use Rattle.gv_seats.specs.Rules.{IsSoundMove, IsSoundStep, IsSoundWrite, Copies, Opens, Closes, Lets, Loads, Stores, Locks, Unlocks}
 
 -- where locals have the values of their terms, an expression whose term has a sort has its term's value
 abbrev pub ExpressionsLaw : Type 0
@@ -18,6 +18,12 @@ ExpressionsLaw = (env : Env) (terms : List (Option TermTree)) (locals : List Val
 
 abbrev pub CopiesLaw : Type 0
 CopiesLaw = (o : Proof) (h k : Path) → Copies o h k → IsSoundMove o h k
+
+abbrev pub OpensLaw : Type 0
+OpensLaw = (o : Proof) (h k : Path) → Opens o h k → IsSoundMove o h k
+
+abbrev pub ClosesLaw : Type 0
+ClosesLaw = (o : Proof) (h k : Path) → Closes o h k → IsSoundMove o h k
 
 abbrev pub LetsLaw : Type 0
 LetsLaw = (o : Proof) (h k : Path) → Lets h k → IsSoundStep o h k

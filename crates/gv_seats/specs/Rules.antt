@@ -1,5 +1,5 @@
 -- When a rule is sound beside every rest, and some rows of rules.
-use Rattle.std.specs.Prelude.{◌≡◌, ℕ, Bool, true, false, List, [], ◌∷◌, Some, slice_set, length, ◌<◌}
+use Rattle.std.specs.Prelude.{◌≡◌, ◌≢◌, ℕ, Bool, true, false, List, [], ◌∷◌, Some, slice_set, length, ◌<◌}
 use Rattle.gv_base.specs.declared.answers.Place.{Place}
 use Rattle.gv_base.specs.declared.answer.Answer.{Answer}
 use Rattle.gv_base.specs.declared.answer.Answer.TheVariants.{Next, Blocked}
@@ -15,10 +15,10 @@ use Rattle.gv_lang.specs.Step.{Stepped, GoesOn, stepped}
 use Rattle.gv_resources.specs.Kinds as kind
 use Rattle.gv_resources.specs.Kinds.{cell_kind}
 use Rattle.gv_resources.specs.Pieces.{Piece}
-use Rattle.gv_resources.specs.Ghost.{Ghost}
+use Rattle.gv_resources.specs.Ghost.{Ghost, Shared}
 use Rattle.gv_assertions.specs.Atoms.{Atom, Owns, Instance, Takes}
 use Rattle.gv_assertions.specs.Kept.{IsPersistent}
-use Rattle.gv_seats.specs.Paths.{Path, term_of, number, goes_on}
+use Rattle.gv_seats.specs.Paths.{Path, Closed, Opened, term_of, number, goes_on}
 use Rattle.gv_seats.specs.Seats.{Proof, Seat, BegunSeat}
 
 -- ---- moves
@@ -64,6 +64,14 @@ IsLocalSort sort.Bool = Unit {0}
 IsLocalSort sort.Ref = Unit {0}
 IsLocalSort sort.SliceS = Unit {0}
 IsLocalSort _ = ⊥
+
+-- open: in shared mode the crash invariant is taken, for one step
+pub data Opens (o : Proof) (h : Path) : Path → Type 0 where
+  opens : h.mode ≡ Shared → h.bracket ≡ Closed → Opens o h (record h { atoms = Instance o.crash [] ∷ h.atoms; bracket = Opened })
+
+-- close: it is given back
+pub data Closes (o : Proof) (h : Path) : Path → Type 0 where
+  closes : (left : List Atom) → h.bracket ≢ Closed → Takes h.atoms (Instance o.crash []) left → Closes o h (record h { atoms = left; bracket = Closed })
 
 -- the local is there
 abbrev pub IsLocal : Path → ℕ → Type 0

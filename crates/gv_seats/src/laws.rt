@@ -1,6 +1,6 @@
 //! Laws of the definitions in this crate. Each function does nothing: its contract is the law.
 
-ghost use Rattle.gv_seats.specs.Laws.{CopiesLaw, ExpressionsLaw, LetsLaw, LoadsLaw, LocksLaw, StoresLaw, UnlocksLaw};
+ghost use Rattle.gv_seats.specs.Laws.{ClosesLaw, CopiesLaw, ExpressionsLaw, LetsLaw, LoadsLaw, LocksLaw, OpensLaw, StoresLaw, UnlocksLaw};
 
 /// An expression over locals has the value of its term.
 pub fn expression_values()
@@ -10,6 +10,16 @@ pub fn expression_values()
 /// What is persistent may be copied.
 pub fn copies_sound()
     ensures { CopiesLaw }
+{}
+
+/// In shared mode the crash invariant may be opened.
+pub fn opens_sound()
+    ensures { OpensLaw }
+{}
+
+/// It is closed where it holds again.
+pub fn closes_sound()
+    ensures { ClosesLaw }
 {}
 
 /// Setting a local is sound beside every rest.

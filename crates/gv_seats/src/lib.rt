@@ -3,4 +3,7 @@
 
 mod laws;
 
-pub use laws::{copies_sound, expression_values, lets_sound, loads_sound, locks_sound, stores_sound, unlocks_sound};
+pub use laws::{
+    closes_sound, copies_sound, expression_values, lets_sound, loads_sound, locks_sound,
+    opens_sound, stores_sound, unlocks_sound,
+};
