@@ -8,3 +8,5 @@ pub mod Runs
 pub mod Shaped
 pub mod Sound
 pub mod Sums
+pub mod Terms
+pub mod Written

@@ -27,27 +27,27 @@ use Rattle.gv_smallprogram.proofs.Calls.{IsTaken, taken, is_called, call_step}
 -- ---- recovery
 
 -- a thread that is to make its object
-abbrev making : Place → Thread
+abbrev pub making : Place → Thread
 making place = thread_of (new_frame 0 (recovery_proc place) [] [])
 
 -- a thread that is to return the object under a number
-abbrev handing : Place → ℕ → Thread
+abbrev pub handing : Place → ℕ → Thread
 handing place object = thread_of (record { proc = 0; locals = val.Ref object ∷ []; todo = Run (Return (LocalAt 0 ∷ []) place) ∷ []; results = [] })
 
-data IsRecovering (place : Place) : Thread → Type 0 where
+pub data IsRecovering (place : Place) : Thread → Type 0 where
   makes : IsRecovering place (making place)
   hands : (object : ℕ) → IsRecovering place (handing place object)
 
 -- a receiver is one value
-record IsReceiver (vs : List Val) : Type 0 where
-  receiver : Val
-  is : vs ≡ receiver ∷ []
+pub record IsReceiver (vs : List Val) : Type 0 where
+  pub receiver : Val
+  pub is : vs ≡ receiver ∷ []
 
 -- there is no disk
 abbrev Fits : World → Unit {0} → Type 0
 Fits w fields = w.disks ≡ []
 
-none_fails : (w : World) (disk : ℕ) → w.disks ≡ [] → possible (fail_disk w disk) ≡ None
+pub none_fails : (w : World) (disk : ℕ) → w.disks ≡ [] → possible (fail_disk w disk) ≡ None
 none_fails w disk e =
     ap (λ (ds : List Disk). possible (cond (may_fail (record { objects = w.objects; disks = ds }) disk) (Next (with_failed w disk)) Blocked)) e
 
@@ -121,7 +121,7 @@ module _ (unkept : Unkept) (small : Small) (word : IsWord unkept) (sound : IsSou
 
 -- ---- the same operations
 
-same_small : (program small : Small) → program.ops ≡ small.ops → program ≡ small
+pub same_small : (program small : Small) → program.ops ≡ small.ops → program ≡ small
 same_small program small e = λ i. record { ops = e i }
 
 pub programs_refine : ProgramsRefine

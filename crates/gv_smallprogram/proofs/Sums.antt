@@ -47,14 +47,14 @@ bounded_at [] place all h = absurd (omega arith)
 bounded_at (n ∷ ns) zero all h = all.0
 bounded_at (n ∷ ns) (suc place) all h = bounded_at ns place all.1 (omega arith)
 
+pub part_below : (ns : List ℕ) → AreBounded ns → (p : Part) → is_sound_part (length ns) p ≡ true → part_value ns p < 2 ^ 64
+part_below ns all (part.Param place) h = bounded_at ns place all (below place (length ns) h)
+part_below ns all (part.Number n) h = below n (2 ^ 64) h
+
 module _ (receiver : Val) (ns : List ℕ) (all : AreBounded ns) where
   part_is : (p : Part) → is_sound_part (length ns) p ≡ true → value (locals_of receiver ns) (part_expr p) ≡ Some (val.Word (part_value ns p))
   part_is (part.Param place) h = got ns place (below place (length ns) h)
   part_is (part.Number n) h = refl
-
-  part_below : (p : Part) → is_sound_part (length ns) p ≡ true → part_value ns p < 2 ^ 64
-  part_below (part.Param place) h = bounded_at ns place all (below place (length ns) h)
-  part_below (part.Number n) h = below n (2 ^ 64) h
 
   taken_away : (a b : ℕ) → b < 2 ^ 64 → minus a b ≡ (a + (2 ^ 64 - b)) % 2 ^ 64
   taken_away a b h = ap (λ n. n % 2 ^ 64) (omega arith)
@@ -70,7 +70,7 @@ module _ (receiver : Val) (ns : List ℕ) (all : AreBounded ns) where
           ≡ Some (val.Word (cond m ((a + (2 ^ 64 - part_value ns t.part)) % 2 ^ 64) ((a + part_value ns t.part) % 2 ^ 64)))
       go true = ap (λ o. two binary.Minus o (value (locals_of receiver ns) (part_expr t.part))) is
           ∙ ap (two binary.Minus (Some (val.Word a))) (part_is t.part h)
-          ∙ ap (λ n. Some (val.Word n)) (taken_away a (part_value ns t.part) (part_below t.part h))
+          ∙ ap (λ n. Some (val.Word n)) (taken_away a (part_value ns t.part) (part_below ns all t.part h))
       go false = ap (λ o. two binary.Plus o (value (locals_of receiver ns) (part_expr t.part))) is
           ∙ ap (two binary.Plus (Some (val.Word a))) (part_is t.part h)
 

@@ -9,8 +9,12 @@ use Rattle.gv_small.specs.Forms.{is_distinct}
 use Rattle.gv_gotree.specs.SmallPackage.{IsSmallPackage}
 use Rattle.gv_lang.specs.WellShaped.{is_well_shaped, too_many}
 use Rattle.gv_terms.specs.declared.value.Value.{Value}
+use Rattle.gv_atomic.specs.declared.spec.Spec.{Spec}
+use Rattle.gv_smallspec.specs.SmallSpec.{IsSmallOf}
+use Rattle.gv_spec.specs.Atomic.{atomic_of}
 use Rattle.gv_spec.specs.Small.{SameInterface, AgreeOps}
 use Rattle.gv_spec.specs.Refines.{Refines, RefinesWithoutCrash}
+use Rattle.gv_runs.specs.Machine as runs
 use Rattle.gv_runs.specs.Machine.{machine_of}
 use Rattle.gv_smallprogram.specs.Program.{Unkept, program_with}
 use Rattle.gv_smallprogram.specs.Specification.{setting_of, reply_to, specification_of}
@@ -58,6 +62,16 @@ pub record ProgramRefines (unkept : Unkept) (program small : Small) : Type 0 whe
 -- where both have the same operations with the same Sums
 abbrev pub ProgramsRefine : Type 0
 ProgramsRefine = (unkept : Unkept) (program small : Small) → IsWord unkept → IsSound program → AgreeOps program small → ProgramRefines unkept program small
+
+-- the same of a specification as it was written
+pub record RefinesWritten (unkept : Unkept) (program : Small) (s : Spec) : Type 0 where
+  pub every : Refines (machine_of (program_with unkept program) (runs.setting_of s)) (atomic_of s)
+  pub without_crash : RefinesWithoutCrash (machine_of (program_with unkept program) (runs.setting_of s)) (atomic_of s)
+
+-- where it is of the small form, and both have the same operations with the same Sums
+abbrev pub ProgramsRefineWritten : Type 0
+ProgramsRefineWritten = (unkept : Unkept) (program small : Small) (s : Spec) → IsWord unkept → IsSound program → IsSmallOf s small → AgreeOps program small
+    → RefinesWritten unkept program s
 
 -- ---- its replies
 

@@ -1,16 +1,17 @@
 //! What is proved of the programs of packages of the small form. Each function does nothing: its contract is the law.
 
 ghost use Rattle.gv_smallprogram.specs.Examples.{ProgramRows, RunRows};
-ghost use Rattle.gv_smallprogram.specs.Laws.{PackagesAreSound, ProgramsAreWellShaped, ProgramsRefine, RefinesOnlySameReplies};
+ghost use Rattle.gv_smallprogram.specs.Laws.{PackagesAreSound, ProgramsAreWellShaped, ProgramsRefine, ProgramsRefineWritten, RefinesOnlySameReplies};
 
 /// Every package of the small form that a text spells has distinct names, and Sums of its own arguments and of
 /// numbers below 2^64. Its program has a good shape, and refines each specification of the small form with the
 /// same operations and the same Sums: in every run, and so in every run without a crash, no step is undefined
-/// and the history has an explanation.
+/// and the history has an explanation. So it is with a specification as it was written, that is of the small form.
 pub fn small_programs()
     ensures sound { PackagesAreSound }
     ensures well_shaped { ProgramsAreWellShaped }
     ensures refine { ProgramsRefine }
+    ensures written { ProgramsRefineWritten }
 {}
 
 /// A program that refines a specification of the small form with the same operations, if only without crashes, gives

@@ -1,6 +1,7 @@
 use Rattle.gv_smallprogram.proofs.Runs.{programs_refine}
 use Rattle.gv_smallprogram.proofs.Shaped.{well_shaped}
 use Rattle.gv_smallprogram.proofs.Sound.{packages_are_sound}
+use Rattle.gv_smallprogram.proofs.Written.{refines_written}
 use Rattle.gv_smallprogram.proofs.laws.small_programs.Goals as goal
 
 pub returns-clause-sound : goal.returns-clause-sound
@@ -11,3 +12,6 @@ returns-clause-well_shaped c = well_shaped
 
 pub returns-clause-refine : goal.returns-clause-refine
 returns-clause-refine c = programs_refine
+
+pub returns-clause-written : goal.returns-clause-written
+returns-clause-written c = refines_written
