@@ -10,12 +10,13 @@ use Rattle.gv_top.specs.declared.files.Halt.TheVariants.{NoMemory, Refused}
 use Rattle.gv_top.specs.declared.small_script.SmallScript.{SmallScript}
 use Rattle.gv_top.specs.Check.{Checks, Compares}
 use Rattle.gv_top.specs.Files.{Source, Asked, Then, Ends, IsBlamed, outside, as_told}
-use Rattle.gv_top.specs.Forms.{packages, specs_for, scripts_for, IsSpecFor, IsScriptFor}
+use Rattle.gv_top.specs.Forms.{packages, specs_for, scripts_for, IsScriptFor}
 use Rattle.gv_top.specs.Run.{OnlyAbsentFailed}
 use Rattle.gv_top.proofs.DifferenceLemmas.{compares_same}
-use Rattle.gv_top.proofs.LawLemmas.{one_package, one_spec, one_script}
+use Rattle.gv_top.proofs.LawLemmas.{one_package, one_script}
 use Rattle.gv_top.proofs.OutcomeLemmas.{then_refused}
 use Rattle.gv_top.proofs.PackageForm.{packages_exact}
+use Rattle.gv_top.proofs.SpecForm.{one_spec, specs_exact}
 use Rattle.gv_top.proofs.StageLemmas.{small_exact, Same, stage_one}
 
 ends_same : (program small : Small) (script : SmallScript) (o q : Result Verdict Halt) → Ends (Compares program small script) o → Ends (Compares program small script) q → Same o q
@@ -40,7 +41,7 @@ module _ (held : List ℕ → Told) (a : Asked) (held_is : a.held ≡ held) (abs
 
   spec_stage : (s t : List ℕ) (program : Small) → First (outside held) s t program o → First (as_told held) s t program q → Same o q
   spec_stage s t program h k =
-      stage_one (specs_for program) (small_exact (IsSpecFor program)) held s a held_is absent (λ text x y h k. one_spec text x y h.0 k.0) o q (Next (outside held) t program) (Next (as_told held) t program) b h k n
+      stage_one (specs_for program) (specs_exact program) held s a held_is absent (λ text x y h k. one_spec text x y h.0 k.0) o q (Next (outside held) t program) (Next (as_told held) t program) b h k n
       (λ small c d. script_stage t program small c d)
 
   pub checks_same : (p s t : List ℕ) → Checks (outside held) p s t o → Checks (as_told held) p s t q → Same o q

@@ -3,8 +3,6 @@ use Rattle.std.proofs.Common.{◌≡◌, true, false, Some, refl, sym, ◌∙◌
 use Rattle.gv_small.specs.Tokens.{tokens_of}
 use Rattle.gv_gotree.specs.SmallPackage.{IsSmallPackage}
 use Rattle.gv_gotree.proofs.PackageLemmas as packages
-use Rattle.gv_spec.specs.SmallSpec.{IsSmallSpec}
-use Rattle.gv_spec.proofs.SpecLemmas as specs
 use Rattle.gv_top.specs.Laws.{SpellsOne}
 use Rattle.gv_top.specs.SmallScript.{IsSmallScript}
 use Rattle.gv_top.proofs.ScriptLemmas as scripts
@@ -15,11 +13,6 @@ some_same x y e = cc
 pub one_package : SpellsOne IsSmallPackage
 one_package text a b h k =
     let e = some_same a.ops b.ops (sym (packages.small_read text (tokens_of true text) a refl h) ∙ packages.small_read text (tokens_of true text) b refl k) in
-    λ i. record { ops = e i }
-
-pub one_spec : SpellsOne IsSmallSpec
-one_spec text a b h k =
-    let e = some_same a.ops b.ops (sym (specs.small_read text (tokens_of false text) a refl h) ∙ specs.small_read text (tokens_of false text) b refl k) in
     λ i. record { ops = e i }
 
 pub one_script : SpellsOne IsSmallScript

@@ -16,5 +16,6 @@ pub mod OutcomeLemmas
 pub mod PackageForm
 pub mod RunLemmas
 pub mod ScriptLemmas
+pub mod SpecForm
 pub mod StageLemmas
 pub mod WrittenLemmas

@@ -5,9 +5,10 @@ use Rattle.gv_base.specs.Outside.{Told}
 use Rattle.gv_base.specs.declared.small.Small.{Small}
 use Rattle.gv_spec.specs.Small.{AgreeOps}
 use Rattle.gv_smallprogram.specs.Program.{nothing_kept}
-use Rattle.gv_smallprogram.specs.Laws.{ProgramRefines}
-use Rattle.gv_smallprogram.proofs.Runs.{programs_refine}
+use Rattle.gv_smallprogram.specs.Laws.{RefinesWritten}
 use Rattle.gv_smallprogram.proofs.Sound.{packages_are_sound}
+use Rattle.gv_smallprogram.proofs.Written.{refines_written}
+use Rattle.gv_atomic.specs.declared.spec.Spec.{Spec}
 use Rattle.gv_spec.specs.History.{IsExplanation, walked}
 use Rattle.gv_history.specs.declared.fault.WalkCause.{WalkCause}
 use Rattle.gv_history.specs.Fault.{cause_of}
@@ -27,7 +28,7 @@ use Rattle.gv_top.specs.Explain as explaining
 use Rattle.gv_top.specs.Explain.{Explains, report_of as explain_report}
 use Rattle.gv_top.specs.Commands.{Command, check, explain, Asks, IsNoCommand, Comes, reported}
 use Rattle.gv_top.specs.Files.{Asked, Source, Reads, Ends, Finishes, outside}
-use Rattle.gv_top.specs.Forms.{packages, specs, specs_for, scripts_for, written_specs, histories_of, moves_of}
+use Rattle.gv_top.specs.Forms.{packages, specs_for, scripts_for, written_specs, histories_of, moves_of}
 use Rattle.gv_top.specs.Promise.{AcceptedPromise, ExplainedPromise}
 use Rattle.gv_top.specs.Run.{Gives, usage, done, Deserves, Answers, IsCutOff}
 use Rattle.gv_top.proofs.CheckExact as checking
@@ -37,9 +38,9 @@ use Rattle.gv_top.proofs.OutcomeLemmas.{check_own, explain_own, never_usage, cam
 
 -- ---- acceptance
 
--- a specification that is read for the package is one
-is_spec : (source : Source) (program small : Small) (name : List ℕ) → Reads source (specs_for program) name small → Reads source specs name small
-is_spec source program small name r = record { bytes = r.bytes; given = r.given; fits = r.fits; spelled = r.spelled.0 }
+-- what is read for the package is a specification
+is_spec : (source : Source) (program small : Small) (name : List ℕ) (r : Reads source (specs_for program) name small) → Reads source written_specs name r.spelled.0.atomic
+is_spec source program small name r = record { bytes = r.bytes; given = r.given; fits = r.fits; spelled = r.spelled.0.spelled }
 
 -- where a command comes to an outcome of its own, it is so
 end_is : {O : Type 0} (Outcome : O → Type 0) (v : O) (o : Result O Halt) → o ≡ Ok v → Ends Outcome o → Outcome v
@@ -56,7 +57,9 @@ module _ (words : List (List ℕ)) (held : List ℕ → Told) (p s t : List ℕ)
       then_read (outside held) (scripts_for program) t (checking.Last program small) o verdict.AcceptedWithoutCrash e h (λ script script_reads c.
       let same = end_is (Compares program small script) verdict.AcceptedWithoutCrash o e c in
       let agree : AgreeOps program small = record { interface = spec_reads.spelled.1; sums = record { firsts = same.0; rests = same.1 } } in
-      let all : ProgramRefines nothing_kept program small = programs_refine nothing_kept program small refl (packages_are_sound reads.bytes program reads.spelled.small_form) agree in
+      let atomic : Spec = spec_reads.spelled.0.atomic in
+      let is_small = spec_reads.spelled.0.small_form in
+      let all : RefinesWritten nothing_kept program atomic = refines_written nothing_kept program small atomic refl (packages_are_sound reads.bytes program reads.spelled.small_form) is_small agree in
       record {
         package_name = p;
         spec_name = s;
@@ -64,8 +67,10 @@ module _ (words : List (List ℕ)) (held : List ℕ → Told) (p s t : List ℕ)
         asked = asks;
         program = program;
         is_package = reads;
-        atomic = small;
+        atomic = atomic;
         is_spec = is_spec (outside held) program small s spec_reads;
+        operations = small;
+        small_form = is_small;
         interface = spec_reads.spelled.1;
         refines = all.without_crash;
       })))

@@ -10,3 +10,4 @@ pub mod Promise
 pub mod Reading
 pub mod Run
 pub mod SmallScript
+pub mod Specifications

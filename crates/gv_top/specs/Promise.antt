@@ -10,16 +10,17 @@ use Rattle.gv_spec.specs.Refines.{RefinesWithoutCrash}
 use Rattle.gv_spec.specs.declared.entry.Entry.{Entry}
 use Rattle.gv_spec.specs.declared.explanation.Move.{Move}
 use Rattle.gv_spec.specs.History.{IsExplanation, walked}
-use Rattle.gv_runs.specs.Machine.{machine_of}
+use Rattle.gv_spec.specs.Atomic.{atomic_of}
+use Rattle.gv_runs.specs.Machine.{setting_of, machine_of}
+use Rattle.gv_smallspec.specs.SmallSpec.{IsSmallOf}
 use Rattle.gv_smallprogram.specs.Program.{program_of}
-use Rattle.gv_smallprogram.specs.Specification.{setting_of, specification_of}
 use Rattle.gv_history.specs.declared.fault.WalkCause.{WalkCause}
 use Rattle.gv_history.specs.Fault.{cause_of}
 use Rattle.gv_report.specs.declared.report.Report.TheVariants.{AcceptedWithoutCrash, NotExplained}
 use Rattle.gv_report.specs.Report.{text_of}
 use Rattle.gv_report.specs.Heard.{Heard, IsWritten}
 use Rattle.gv_top.specs.Files.{Reads, outside}
-use Rattle.gv_top.specs.Forms.{packages, specs, written_specs, histories_of, moves_of}
+use Rattle.gv_top.specs.Forms.{packages, written_specs, histories_of, moves_of}
 use Rattle.gv_top.specs.Commands.{check, explain, Asks, files_of}
 
 -- no byte of the name is a newline
@@ -47,15 +48,17 @@ pub record AcceptedPromise (words : List (List ℕ)) (held : List ℕ → Told) 
   -- The bytes held under the first name, where that is told, are a package of the grammar, and spell this one of the small form.
   pub program : Small
   pub is_package : Reads (outside held) packages package_name program
-  -- The bytes held under the second name, where that is told, spell this specification of the small form. It names the
+  -- The bytes held under the second name, where that is told, spell this specification, which is of the small form. It names the
   -- package's operations: the same names, with the same parameters, in the same order.
-  pub atomic : Small
-  pub is_spec : Reads (outside held) specs spec_name atomic
-  pub interface : SameInterface program atomic
+  pub atomic : Spec
+  pub is_spec : Reads (outside held) written_specs spec_name atomic
+  pub operations : Small
+  pub small_form : IsSmallOf atomic operations
+  pub interface : SameInterface program operations
   -- For every list of calls, thread steps and disk failures, of any length and in any order, without a crash: no step of the
-  -- package's machine is undefined, and its history has an explanation by the specification, in which each answered call acts
-  -- once, between its start and its answer, with the reply that the specification gives then.
-  pub refines : RefinesWithoutCrash (machine_of (program_of program) (setting_of atomic)) (specification_of atomic)
+  -- package's machine is undefined, and its history has an explanation by the specification as it is written, in which each answered
+  -- call acts once, between its start and its answer, with the reply that the specification gives then.
+  pub refines : RefinesWithoutCrash (machine_of (program_of program) (setting_of atomic)) (atomic_of atomic)
 
 -- THE PROMISE of `explain` on files of these names, where it ends with status 0 or 1.
 pub record ExplainedPromise (held : List ℕ → Told) (heard : Heard) (status : ℕ) (spec_name history_name moves_name : List ℕ) : Type 0 where

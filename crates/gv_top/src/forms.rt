@@ -1,32 +1,37 @@
 //! The forms of the texts that are read.
 
-ghost use Rattle.std.specs.Prelude.{◌≡◌};
-ghost use Rattle.gv_small.specs.Reading.{start_refusal};
+ghost use Rattle.std.specs.Prelude.{IfOk, IfErr};
 ghost use Rattle.gv_top.specs.Files.{longest};
 ghost use Rattle.gv_top.specs.Packages.{IsPackageOf, IsRefusedPackage};
+ghost use Rattle.gv_smallspec.specs.SmallSpec.{IsSmallOf};
 ghost use Rattle.gv_specs.specs.Reading as written;
 ghost use Rattle.gv_replay.specs.Reading as lines;
-ghost use Rattle.gv_top.specs.Forms.{IsOfNone, IsPlaced, IsSpecFor, IsScriptFor, IsHistoryOf, AreMovesOf};
+ghost use Rattle.gv_top.specs.Forms.{IsOfNone, IsPlaced, IsScriptFor, IsHistoryOf, AreMovesOf};
+ghost use Rattle.gv_top.specs.Specifications.{IsSpecFor, IsRefusedSpecFor, IsRefusedAsOther};
 
 use crate::comparing::{same_blocks, same_interface};
 use crate::files::Form;
 use crate::small_script::{SmallScript, read_small_script};
-use gv_base::{Code, Place, Refusal, Small};
+use gv_base::{Refusal, Small};
 use gv_goparse::parse;
 use gv_gotree::read_small_package;
 use gv_replay::{read_history, read_moves};
-use gv_spec::{Entry, Move, Spec, read_small_spec};
+use gv_small::not_of_form;
+use gv_smallspec::{SmallFault, small_spec};
+use gv_spec::{Entry, Move, Spec};
 use gv_specs::read_spec;
 use gv_tokens::tokens;
 use std::alloc::Global;
 
-// What refuses a text whose operations are not the package's.
-fn other_operations() -> Refusal
-    ensures { result ≡ start_refusal }
+// The operations of a specification of the small form, or the refusal of its text.
+fn small_or_refused(alloc: Global, spec: &Spec) -> Result<Small, Refusal>
+    ensures found { IfOk result (λ small. IsSmallOf spec.now small) }
+    ensures refused { IfErr result (IsRefusedAsOther spec.now) }
 {
-    Refusal::At {
-        place: Place { line: 1, column: 1 },
-        code: Code::NotInProfile,
+    match small_spec(alloc, spec) {
+        Ok(small) => Ok(small),
+        Err(SmallFault::NoMemory) => Err(Refusal::NoMemory),
+        Err(SmallFault::Other) => Err(not_of_form()),
     }
 }
 
@@ -48,7 +53,7 @@ impl Form for Packages {
     }
 }
 
-/// Specifications of the small form with a package's operations, in the same order.
+/// Specifications, read as those of the small form with a package's operations, in the same order.
 #[derive(Clone, Copy)]
 pub struct SpecsFor<'a> {
     pub package: &'a Small,
@@ -59,14 +64,15 @@ impl<'a> Form for SpecsFor<'a> {
 
     ghost spells = { λ s. IsSpecFor s.«package».now };
 
-    ghost refuses = { λ s. IsOfNone (IsSpecFor s.«package».now) };
+    ghost refuses = { λ s. IsRefusedSpecFor s.«package».now };
 
     fn read(&self, alloc: Global, text: &[u8]) -> Result<Small, Refusal> {
-        let small = read_small_spec(alloc, text)?;
+        let spec = read_spec(alloc, text)?;
+        let small = small_or_refused(alloc, &spec)?;
         if same_interface(self.package.ops.as_slice(), small.ops.as_slice()) {
             Ok(small)
         } else {
-            Err(other_operations())
+            Err(not_of_form())
         }
     }
 }
@@ -89,7 +95,7 @@ impl<'a> Form for ScriptsFor<'a> {
         if same_blocks(self.package.ops.as_slice(), script.ops.as_slice()) {
             Ok(script)
         } else {
-            Err(other_operations())
+            Err(not_of_form())
         }
     }
 }

@@ -1,9 +1,9 @@
 //! Laws of the texts that a promise speaks of: each spells at most one value.
 
 ghost use Rattle.gv_gotree.specs.SmallPackage.{IsSmallPackage};
-ghost use Rattle.gv_spec.specs.SmallSpec.{IsSmallSpec};
 ghost use Rattle.gv_top.specs.Laws.{SpellsOne};
 ghost use Rattle.gv_top.specs.SmallScript.{IsSmallScript};
+ghost use Rattle.gv_top.specs.Specifications.{IsSpecOf};
 
 /// A text spells at most one package of the small form.
 pub fn one_package()
@@ -12,7 +12,7 @@ pub fn one_package()
 
 /// A text spells at most one specification of the small form.
 pub fn one_specification()
-    ensures { SpellsOne IsSmallSpec }
+    ensures { SpellsOne IsSpecOf }
 {}
 
 /// A text spells at most one script of the small form.

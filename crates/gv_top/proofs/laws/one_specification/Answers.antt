@@ -1,4 +1,4 @@
-use Rattle.gv_top.proofs.LawLemmas as laws
+use Rattle.gv_top.proofs.SpecForm as laws
 use Rattle.gv_top.proofs.laws.one_specification.Goals as goal
 
 pub returns : goal.returns

@@ -12,5 +12,5 @@ returns-in_err-script c =
 pub returns-else-same_blocks : goal.returns-else-same_blocks
 returns-else-same_blocks c =
     let program = c.args.self.now.package.now in
-    refused_start (IsScriptFor program) c.args.text.now c.other_operations.result c.other_operations.ensures
+    refused_start (IsScriptFor program) c.args.text.now c.not_of_form.result c.not_of_form.ensures
     (λ x s. other_blocks program c.in_ok-script.script x c.as_slice.result.now c.as_slice-2.result.now c.same_blocks.result (c.in_ok-script.ensures.only x s.0) s.1 c.as_slice.ensures c.as_slice-2.ensures c.same_blocks.ensures c.if-same_blocks.false)
