@@ -1,0 +1,9 @@
+pub mod Folding
+pub mod Equality
+pub mod Known
+pub mod Totals
+pub mod Rows
+pub mod Truth
+pub mod SomeAnswer
+pub mod OneAnswer
+pub mod Examples
