@@ -1,0 +1,15 @@
+//! Which formulas are known from facts, and one term put for another.
+#![tactic(auto)]
+
+mod comparing;
+mod facts;
+mod formulas;
+mod parts;
+mod plain;
+mod replacing;
+
+pub use comparing::same;
+pub use facts::is_reflexive;
+pub use formulas::known;
+pub use parts::{Pair, parts_under};
+pub use replacing::replaced;
