@@ -71,12 +71,6 @@ begins_with_sign b (named w ∷ ts) = false
 begins_with_sign b (arrowed ∷ ts) = false
 begins_with_sign b (signed c ∷ ts) = c == b
 
-abbrev pub begins_with_word : List ℕ → List Token → Bool
-begins_with_word w [] = false
-begins_with_word w (named v ∷ ts) = bytes_eq v w
-begins_with_word w (arrowed ∷ ts) = false
-begins_with_word w (signed c ∷ ts) = false
-
 -- one after the other until it stops, at most so many
 abbrev pub many : {S A : Type 0} → (List S → Bool) → (List S → ReadFrom S A) → ℕ → List S → ReadFrom S (List A)
 many stop step zero ts = if stop ts then Some ([], ts) else None

@@ -111,8 +111,8 @@ pub fn distinct(alloc: Global, names: &[Name]) -> Result<Option<IndexSet<Name>>,
     Ok(Some(set))
 }
 
-/// The names as a set in their order. Refused where one stands twice.
-pub fn distinct_or_refused(alloc: Global, names: &[Name]) -> Result<IndexSet<Name>, Refusal>
+// The names as a set in their order. Refused where one stands twice.
+fn distinct_or_refused(alloc: Global, names: &[Name]) -> Result<IndexSet<Name>, Refusal>
     ensures ok { IfOk result (λ set. reading.distinct_names names.now ≡ Some set.keys) }
     ensures keys { IfOk result (λ set. set.keys ≡ names.now) }
     ensures err { IfErr result (reading.Refuses (reading.distinct_names names.now)) }

@@ -131,22 +131,6 @@ pub fn begins_with_sign(cursor: &Cursor, sign: u8) -> bool
     }
 }
 
-/// Whether this word comes next.
-pub fn begins_with_word(cursor: &Cursor, word: &[u8]) -> bool
-    ensures { result ≡ reading.begins_with_word word.now (kinds_left cursor.now) }
-{
-    let mut ahead = *cursor;
-    match ahead.next() {
-        Some(
-            Taken {
-                token: SmallToken::Word(found),
-                ..
-            },
-        ) => found == word,
-        _ => false,
-    }
-}
-
 /// Whether the sign of a turn comes next.
 pub fn is_before_turn(cursor: &Cursor) -> bool
     ensures { result ≡ not (reading.no_turn (kinds_left cursor.now)) }

@@ -1,5 +1,4 @@
 pub mod Examples
-pub mod SpecLemmas
 pub mod Threads
 pub mod Moves
 pub mod PlainLaws

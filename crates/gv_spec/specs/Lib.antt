@@ -7,12 +7,10 @@ pub mod Machine
 pub mod Meaning
 pub mod Move
 pub mod Plain
-pub mod Reading
 pub mod Refines
 pub mod RunLaws
 pub mod Runs
 pub mod Small
-pub mod SmallSpec
 pub mod Specification
 pub mod WalkLaws
 pub mod Walks

@@ -6,7 +6,6 @@ mod event;
 mod explanation;
 mod laws;
 mod meaning;
-mod small_spec;
 
 pub use entry::Entry;
 pub use event::Event;
@@ -17,4 +16,3 @@ pub use laws::{
     worked, written_walks, wrong_definitions,
 };
 pub use meaning::{apply, crashed, init, meets_where, takes};
-pub use small_spec::read_small_spec;
