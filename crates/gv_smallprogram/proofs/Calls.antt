@@ -22,7 +22,7 @@ use Rattle.gv_world.specs.Answers.{and_then}
 use Rattle.gv_terms.specs.declared.value.Value.{Value}
 use Rattle.gv_terms.specs.declared.value.Value.TheVariants as value
 use Rattle.gv_spec.specs.Machine.{Returns}
-use Rattle.gv_spec.specs.Small.{sum_value}
+use Rattle.gv_smallprogram.specs.Sums.{sum_value}
 use Rattle.gv_spec.proofs.Threads.{some_same, append_none}
 use Rattle.gv_runs.specs.Machine.{given_of, all_given, left_by, procedure, call_of}
 use Rattle.gv_smallprogram.specs.Program.{Unkept, sum_expr, param_locals, method_proc, recovery_proc, program_with}

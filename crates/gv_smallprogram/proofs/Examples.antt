@@ -1,6 +1,18 @@
--- The worked runs, by computation.
+-- The worked Sums and runs, by computation.
 use Rattle.std.proofs.Common.{refl}
-use Rattle.gv_smallprogram.specs.Examples.{ProgramRows, RunRows}
+use Rattle.gv_smallprogram.specs.Examples.{SumValues, ProgramRows, RunRows}
+
+pub sum_values : SumValues
+sum_values = record {
+  sum = refl;
+  around = refl;
+  difference = refl;
+  below_zero = refl;
+  nothing = refl;
+  number = refl;
+  from_left = refl;
+  alone = refl;
+}
 
 pub program_rows : ProgramRows
 program_rows = record { shaped = refl; names = refl; locals = refl; points = refl }

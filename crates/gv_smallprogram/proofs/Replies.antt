@@ -15,7 +15,7 @@ use Rattle.gv_spec.specs.Plain.{unless_chosen}
 use Rattle.gv_spec.specs.Runs.{Answers, RunState, call_started, call_made, settled, step_taken, event_made, after, run_of, history_of}
 use Rattle.gv_spec.specs.Walks.{Explains}
 use Rattle.gv_spec.specs.Refines.{IsWithoutCrash, RefinesWithoutCrash}
-use Rattle.gv_spec.specs.Small.{sum_value}
+use Rattle.gv_smallprogram.specs.Sums.{sum_value}
 use Rattle.gv_spec.proofs.Threads.{some_same}
 use Rattle.gv_spec.proofs.WalkLaws.{no_wrong_reply}
 use Rattle.gv_runs.specs.Machine.{Setting, call_of, machine_of}

@@ -2,6 +2,7 @@
 use Rattle.std.proofs.Common.{◌≡◌, ℕ, cond, List, [], ◌∷◌, map, Some, None, refl, sym, ap, subst, ◌∙◌}
 use Rattle.gv_base.specs.declared.answers.Place.{Place}
 use Rattle.gv_base.specs.declared.small.Small.{Small}
+use Rattle.gv_base.specs.declared.small.SmallOp.{SmallOp}
 use Rattle.gv_base.specs.declared.answer.Answer.TheVariants.{Next, Blocked}
 use Rattle.gv_base.specs.declared.val.Val.{Val}
 use Rattle.gv_base.specs.declared.val.Val.TheVariants as val
@@ -13,10 +14,9 @@ use Rattle.gv_lang.specs.Threads.{Thread, new_frame, thread_of}
 use Rattle.gv_terms.specs.declared.value.Value.{Value}
 use Rattle.gv_spec.specs.Machine.{Machine}
 use Rattle.gv_spec.specs.Specification.{Specification}
-use Rattle.gv_spec.specs.Small.{sum_value}
+use Rattle.gv_smallprogram.specs.Sums.{sum_value, AgreeOps}
 use Rattle.gv_spec.specs.Refines.{Refines}
 use Rattle.gv_spec.proofs.Threads.{some_same}
-use Rattle.gv_spec.proofs.SmallRuns.{same_of_agree}
 use Rattle.gv_runs.specs.Machine.{possible, machine_of}
 use Rattle.gv_smallprogram.specs.Program.{Unkept, recovery_proc, method_proc, program_with}
 use Rattle.gv_smallprogram.specs.Specification.{setting_of, reply_to, word_or_zero, specification_of}
@@ -120,6 +120,22 @@ module _ (unkept : Unkept) (small : Small) (word : IsWord unkept) (sound : IsSou
   own = refines_at_once machine atomic plain Fits (IsRecovering unkept.recovers) IsReceiver at_once
 
 -- ---- the same operations
+
+same_op : (x y : SmallOp) → x.name ≡ y.name → x.params ≡ y.params → x.first ≡ y.first → x.rest ≡ y.rest → x ≡ y
+same_op x y n p f r = λ i. record { name = n i; params = p i; first = f i; rest = r i }
+
+same_ops : (xs ys : List SmallOp) → map (λ op. op.name) xs ≡ map (λ op. op.name) ys → map (λ op. op.params) xs ≡ map (λ op. op.params) ys
+    → map (λ op. op.first) xs ≡ map (λ op. op.first) ys → map (λ op. op.rest) xs ≡ map (λ op. op.rest) ys → xs ≡ ys
+same_ops [] [] n p f r = refl
+same_ops [] (y ∷ ys) n p f r = absurd cc
+same_ops (x ∷ xs) [] n p f r = absurd cc
+same_ops (x ∷ xs) (y ∷ ys) n p f r =
+    let front : x ≡ y = same_op x y (cc) (cc) (cc) (cc) in
+    let rest : xs ≡ ys = same_ops xs ys (cc) (cc) (cc) (cc) in
+    ap (λ z. z ∷ xs) front ∙ ap (λ zs. y ∷ zs) rest
+
+pub same_of_agree : (program small : Small) → AgreeOps program small → program.ops ≡ small.ops
+same_of_agree program small a = same_ops program.ops small.ops a.interface.names a.interface.params a.sums.firsts a.sums.rests
 
 pub same_small : (program small : Small) → program.ops ≡ small.ops → program ≡ small
 same_small program small e = λ i. record { ops = e i }

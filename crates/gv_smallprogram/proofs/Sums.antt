@@ -15,7 +15,7 @@ use Rattle.gv_lang.specs.declared.program.LocalKind.TheVariants as kind
 use Rattle.gv_lang.specs.Tree.{Expr, Two}
 use Rattle.gv_lang.specs.Values.{value, two}
 use Rattle.gv_lang.specs.Kinds.{kind_of, kind_of_two}
-use Rattle.gv_spec.specs.Small.{part_value, turned, sum_value}
+use Rattle.gv_smallprogram.specs.Sums.{part_value, turned, sum_value}
 use Rattle.gv_smallprogram.specs.Program.{part_expr, turn_expr, sum_expr, param_locals, method_locals}
 use Rattle.gv_smallprogram.specs.Laws.{is_sound_part, is_sound_op}
 

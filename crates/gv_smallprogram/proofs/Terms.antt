@@ -33,7 +33,7 @@ use Rattle.gv_terms.proofs.Valued.{value_variable, value_apply}
 use Rattle.gv_atomic.specs.Choices.{bound}
 use Rattle.gv_smallspec.specs.SmallSpec as form
 use Rattle.gv_smallspec.specs.SmallSpec.{place_of, alone, part_in, may_turn, sum_by, sum_of}
-use Rattle.gv_spec.specs.Small.{part_value, turned}
+use Rattle.gv_smallprogram.specs.Sums.{part_value, turned}
 use Rattle.gv_spec.proofs.Threads.{some_same}
 
 -- ---- the value of a Sum

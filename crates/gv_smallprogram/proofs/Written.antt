@@ -34,9 +34,8 @@ use Rattle.gv_spec.specs.Atomic.{are_of, are_args, are_args_of, atomic_of}
 use Rattle.gv_spec.specs.Machine.{Machine}
 use Rattle.gv_spec.specs.Meaning.{allows, chooses, op_chooses_or, op_reply_or, fields_after, reply_of}
 use Rattle.gv_spec.specs.Refines.{Refines}
-use Rattle.gv_spec.specs.Small.{sum_value}
+use Rattle.gv_smallprogram.specs.Sums.{sum_value}
 use Rattle.gv_spec.specs.Specification.{Specification}
-use Rattle.gv_spec.proofs.SmallRuns.{same_of_agree}
 use Rattle.gv_spec.proofs.Threads.{some_same}
 use Rattle.gv_runs.specs.Machine as runs
 use Rattle.gv_runs.specs.Machine.{Setting, all_given, procedure, call_of, machine_of}
@@ -45,7 +44,7 @@ use Rattle.gv_smallprogram.specs.Specification.{setting_of, words_in, sum_of as 
 use Rattle.gv_smallprogram.specs.Laws.{is_sound_part, is_sound_op, IsSound, IsWord, ProgramsRefineWritten}
 use Rattle.gv_smallprogram.proofs.AtOnce.{Alone, AnswersAtOnce, RecoveryStep, recovery_goes, recovery_returns, CallStep, call_returns, Calling, refines_at_once}
 use Rattle.gv_smallprogram.proofs.Calls.{IsTaken, words_are, is_called, call_step}
-use Rattle.gv_smallprogram.proofs.Runs.{handing, IsRecovering, makes, hands, IsReceiver, none_fails, same_small}
+use Rattle.gv_smallprogram.proofs.Runs.{handing, IsRecovering, makes, hands, IsReceiver, none_fails, same_of_agree, same_small}
 use Rattle.gv_smallprogram.proofs.Sums.{and_first, and_second, AreBounded, part_below}
 use Rattle.gv_smallprogram.proofs.Terms.{AreBelow, term_worth}
 

@@ -1,10 +1,12 @@
--- Worked runs: the program of the package with the one operation `Add(a, b)`, which returns `a + b`.
+-- Worked Sums and runs: the program of the package with the one operation `Add(a, b)`, which returns `a + b`.
 use Rattle.std.specs.Prelude.{◌≡◌, ℕ, ◌-◌, ◌^◌, true, false, List, [], ◌∷◌, ◌++◌, map, replicate, Some, None, IsTrue, is_ok, codes}
 use Rattle.gv_base.specs.declared.answers.Place.{Place}
 use Rattle.gv_base.specs.declared.answer.Answer.{Answer}
 use Rattle.gv_base.specs.declared.answer.Answer.TheVariants.{Blocked}
 use Rattle.gv_base.specs.declared.small.Small.{Small}
 use Rattle.gv_base.specs.declared.small.SmallOp.{SmallOp}
+use Rattle.gv_base.specs.declared.small.Turn.{Turn}
+use Rattle.gv_base.specs.declared.small.Part.{Part}
 use Rattle.gv_base.specs.declared.small.Part.TheVariants as part
 use Rattle.gv_base.specs.declared.val.Val.{Val}
 use Rattle.gv_base.specs.declared.val.Val.TheVariants as val
@@ -26,6 +28,7 @@ use Rattle.gv_spec.specs.Walks.{walk}
 use Rattle.gv_runs.specs.Machine.{machine_of}
 use Rattle.gv_smallprogram.specs.Program.{Unkept, program_with, program_of}
 use Rattle.gv_smallprogram.specs.Specification.{setting_of, specification_of}
+use Rattle.gv_smallprogram.specs.Sums.{sum_value}
 
 abbrev pub add_op : SmallOp
 add_op = record {
@@ -43,6 +46,30 @@ abbrev pub subtractor : Small
 subtractor = record {
   ops = record add_op { rest = record { minus = true; part = part.Param 1 } ∷ record { minus = false; part = part.Number 1 } ∷ [] } ∷ [];
 }
+
+-- ---- Sums
+
+-- the value of a Sum of two parts that begins with the first of two arguments
+abbrev pub two_parts : Turn → ℕ → ℕ → ℕ
+two_parts turn x y = sum_value (record add_op { rest = turn ∷ [] }) (x ∷ y ∷ [])
+
+abbrev pub plus : Part → Turn
+plus value = record { minus = false; part = value }
+
+abbrev pub minus : Part → Turn
+minus value = record { minus = true; part = value }
+
+pub record SumValues : Type 0 where
+  pub sum : two_parts (plus (part.Param 1)) 2 3 ≡ 5
+  pub around : two_parts (plus (part.Param 1)) (2 ^ 64 - 1) 3 ≡ 2
+  pub difference : two_parts (minus (part.Param 1)) 5 3 ≡ 2
+  pub below_zero : two_parts (minus (part.Param 1)) 3 5 ≡ 2 ^ 64 - 2
+  pub nothing : two_parts (minus (part.Param 0)) 5 3 ≡ 0
+  pub number : two_parts (minus (part.Number 3)) 10 0 ≡ 7
+  -- `10 - a + b - 1`, from the left
+  pub from_left : sum_value (record add_op { first = part.Number 10; rest = minus (part.Param 0) ∷ plus (part.Param 1) ∷ minus (part.Number 1) ∷ [] })
+      (4 ∷ 7 ∷ []) ≡ 12
+  pub alone : sum_value (record add_op { first = part.Param 1; rest = [] }) (4 ∷ 7 ∷ []) ≡ 7
 
 -- ---- its program
 

@@ -12,7 +12,7 @@ use Rattle.gv_terms.specs.declared.value.Value.{Value}
 use Rattle.gv_atomic.specs.declared.spec.Spec.{Spec}
 use Rattle.gv_smallspec.specs.SmallSpec.{IsSmallOf}
 use Rattle.gv_spec.specs.Atomic.{atomic_of}
-use Rattle.gv_spec.specs.Small.{SameInterface, AgreeOps}
+use Rattle.gv_smallprogram.specs.Sums.{SameInterface, AgreeOps}
 use Rattle.gv_spec.specs.Refines.{Refines, RefinesWithoutCrash}
 use Rattle.gv_runs.specs.Machine as runs
 use Rattle.gv_runs.specs.Machine.{machine_of}

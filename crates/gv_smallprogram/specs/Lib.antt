@@ -2,3 +2,4 @@ pub mod Examples
 pub mod Laws
 pub mod Program
 pub mod Specification
+pub mod Sums

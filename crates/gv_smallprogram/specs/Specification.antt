@@ -9,7 +9,7 @@ use Rattle.gv_terms.specs.Values.{value_eq}
 use Rattle.gv_terms.proofs.Equality.{value_eq_decides}
 use Rattle.gv_spec.specs.Specification.{Specification}
 use Rattle.gv_spec.specs.Plain.{unless_chosen}
-use Rattle.gv_spec.specs.Small.{sum_value}
+use Rattle.gv_smallprogram.specs.Sums.{sum_value}
 use Rattle.gv_runs.specs.Machine.{Setting}
 
 -- no disk, and the operations in their order

@@ -1,6 +1,6 @@
 //! What is proved of the programs of packages of the small form. Each function does nothing: its contract is the law.
 
-ghost use Rattle.gv_smallprogram.specs.Examples.{ProgramRows, RunRows};
+ghost use Rattle.gv_smallprogram.specs.Examples.{SumValues, ProgramRows, RunRows};
 ghost use Rattle.gv_smallprogram.specs.Laws.{PackagesAreSound, ProgramsAreWellShaped, ProgramsRefine, ProgramsRefineWritten, RefinesOnlySameReplies};
 
 /// Every package of the small form that a text spells has distinct names, and Sums of its own arguments and of
@@ -21,10 +21,11 @@ pub fn small_replies()
     ensures { RefinesOnlySameReplies }
 {}
 
-/// Worked rows, computed: the program of the adder with its points, and its runs: a call and its answer, sums that go
+/// Worked rows, computed: values of Sums, the program of the adder with its points, and its runs: a call and its answer, sums that go
 /// around at 2^64, a call that a crash drops, two calls at the same time, and what isn't possible.
-#[tactic(auto, using(crate::proofs::Examples::program_rows, crate::proofs::Examples::run_rows))]
+#[tactic(auto, using(crate::proofs::Examples::sum_values, crate::proofs::Examples::program_rows, crate::proofs::Examples::run_rows))]
 pub fn worked()
+    ensures sums { SumValues }
     ensures program { ProgramRows }
     ensures runs { RunRows }
 {}

@@ -1,48 +1,102 @@
--- Worked runs and walks: the package with the one operation `Add(a, b)`, which returns `a + b`.
-use Rattle.std.specs.Prelude.{◌≡◌, ◌-◌, ◌*◌, ◌^◌, ◌==◌, ℕ, zero, suc, true, false, List, [], ◌∷◌, map, length, take, Option, Some, None, Result, Ok, Err, IsTrue, is_ok, nat_lt, if◌then◌else◌, codes}
+-- Worked runs and walks, of a machine and a specification by hand with one operation, which makes the sum of two numbers.
+use Rattle.std.specs.Prelude.{◌≡◌, ◌+◌, ◌-◌, ◌*◌, ◌%◌, ◌^◌, ◌==◌, ◌&&◌, ℕ, zero, suc, true, false, List, [], ◌∷◌, map, length, take, Option, Some, None, Result, Ok, Err, IsTrue, is_ok, is_some, nat_lt, if◌then◌else◌, option_map}
 use Rattle.std.proofs.Common.{eqb-true, eq-eqb}
-use Rattle.gv_base.specs.declared.small.Small.{Small}
-use Rattle.gv_base.specs.declared.small.SmallOp.{SmallOp}
-use Rattle.gv_base.specs.declared.small.Turn.{Turn}
-use Rattle.gv_base.specs.declared.small.Part.{Part}
-use Rattle.gv_base.specs.declared.small.Part.TheVariants as part
 use Rattle.gv_spec.specs.Event as event
 use Rattle.gv_spec.specs.Entry as entry
 use Rattle.gv_spec.specs.Move as move
 use Rattle.gv_spec.specs.Event.{Event}
 use Rattle.gv_spec.specs.Entry.{Entry}
 use Rattle.gv_spec.specs.Move.{Move}
+use Rattle.gv_base.specs.declared.reason.Reason.{Reason}
+use Rattle.gv_base.specs.declared.reason.Reason.TheVariants as reason
 use Rattle.gv_base.specs.declared.answer.Answer.{Answer}
 use Rattle.gv_base.specs.declared.answer.Answer.TheVariants.{Next, Blocked}
 use Rattle.gv_spec.specs.Machine.{Stepped, GoesOn, Returns, Machine}
 use Rattle.gv_spec.specs.Specification.{Specification}
 use Rattle.gv_spec.specs.Runs.{Recovers, Answers, Spawned, RunState, outcome_of, run_of}
 use Rattle.gv_spec.specs.Walks.{Standing, NeverCalled, Acted, Answered, WalkState, WalkFault, WalkCause, Repeated, NotCalled, ActedAlready, NotActed, WrongReply, Order, Missing, BadChoice, first_walk, walk_from, Explains, walk}
-use Rattle.gv_spec.specs.Small.{sum_value, SmallThread, Hands, Sums, SmallResult, Reference, machine_of, specification_of, SmallRefinesWithoutCrash}
+use Rattle.gv_spec.specs.Plain.{unless_chosen}
+use Rattle.gv_spec.specs.Refines.{RefinesWithoutCrash}
 
-abbrev pub add_op : SmallOp
-add_op = record {
-  name = codes "Add";
-  params = codes "a" ∷ codes "b" ∷ [];
-  first = part.Param 0;
-  rest = record { minus = false; part = part.Param 1 } ∷ [];
+-- ---- a machine and a specification by hand
+
+-- a thread of a package with one operation on two numbers
+pub data AdderThread : Type 0 where
+  -- recovery is to make its object
+  Makes : AdderThread
+  -- recovery is to return this object
+  Hands : ℕ → AdderThread
+  -- a call is to return what its operation makes of two numbers
+  Adds : ℕ → ℕ → AdderThread
+
+-- what a first frame returns
+pub data AdderResult : Type 0 where
+  Reference : ℕ → AdderResult
+  Word : ℕ → AdderResult
+
+-- the thread of a call: of operation 0, with two numbers below 2 ^ 64
+abbrev pub adds : ℕ → List ℕ → Option AdderThread
+adds zero (x ∷ y ∷ []) = if nat_lt x (2 ^ 64) && nat_lt y (2 ^ 64) then Some (Adds x y) else None
+adds op args = None
+
+-- no step makes a slice larger, so each takes any extra room
+abbrev pub adder_stepped : (ℕ → ℕ → ℕ) → ℕ → AdderThread → Unit {0} → Answer (Stepped (Unit {0}) AdderThread AdderResult)
+adder_stepped made extra Makes world = Next (GoesOn world (Hands 1) [])
+adder_stepped made extra (Hands object) world = Next (Returns world (Reference object))
+adder_stepped made extra (Adds x y) world = Next (Returns world (Word (made x y)))
+
+abbrev pub adder_reply : AdderResult → Unit {0} → Result ℕ Reason
+adder_reply (Reference object) world = Err reason.Kind
+adder_reply (Word value) world = Ok value
+
+-- an object without fields leaves nothing in the world
+abbrev pub machine_that : (ℕ → ℕ → ℕ) → Machine (Unit {0}) AdderThread AdderResult ℕ
+machine_that made = record {
+  first_world = tt;
+  recovery = Makes;
+  stepped = adder_stepped made;
+  called = λ receiver op args world. option_map (λ thread. (world, thread)) (adds op args);
+  reply = adder_reply;
+  crashed = λ world. world;
+  failed = λ disk world. None;
 }
 
-abbrev pub adder : Small
-adder = record { ops = add_op ∷ [] }
+-- both around at 2 ^ 64
+abbrev pub sum : ℕ → ℕ → ℕ
+sum x y = (x + y) % 2 ^ 64
 
--- the same but for `a - b`
-abbrev pub subtractor : Small
-subtractor = record { ops = record add_op { rest = record { minus = true; part = part.Param 1 } ∷ [] } ∷ [] }
+abbrev pub difference : ℕ → ℕ → ℕ
+difference x y = (x + (2 ^ 64 - y)) % 2 ^ 64
 
-abbrev pub adder_run : List (Event ℕ) → RunState (Unit {0}) SmallThread SmallResult ℕ
-adder_run events = run_of (machine_of adder) (specification_of adder).allows events
+abbrev pub adder : Machine (Unit {0}) AdderThread AdderResult ℕ
+adder = machine_that sum
 
-abbrev pub adder_outcome : List (Event ℕ) → Event ℕ → Answer (RunState (Unit {0}) SmallThread SmallResult ℕ)
-adder_outcome events e = outcome_of (machine_of adder) (specification_of adder).allows (adder_run events) e
+abbrev pub subtractor : Machine (Unit {0}) AdderThread AdderResult ℕ
+subtractor = machine_that difference
+
+abbrev pub sum_of : List ℕ → ℕ
+sum_of (x ∷ y ∷ []) = sum x y
+sum_of args = 0
+
+-- it has no fields, its operation replies the sum, and nothing is chosen
+abbrev pub adding : Specification (Unit {0}) ℕ
+adding = record {
+  first_fields = tt;
+  allows = λ op args. is_some (adds op args);
+  applied = λ op args choices fields. unless_chosen choices (fields, sum_of args);
+  crashed = λ choices fields. unless_chosen choices fields;
+  same = ◌==◌;
+  decides = λ x y. (eqb-true x y, eq-eqb x y);
+}
+
+abbrev pub adder_run : List (Event ℕ) → RunState (Unit {0}) AdderThread AdderResult ℕ
+adder_run events = run_of adder adding.allows events
+
+abbrev pub adder_outcome : List (Event ℕ) → Event ℕ → Answer (RunState (Unit {0}) AdderThread AdderResult ℕ)
+adder_outcome events e = outcome_of adder adding.allows (adder_run events) e
 
 abbrev pub adder_walk : List (Entry ℕ) → List (Move ℕ) → Result (WalkState (Unit {0}) ℕ) WalkFault
-adder_walk history moves = walk (specification_of adder) history moves
+adder_walk history moves = walk adding history moves
 
 abbrev pub add : ℕ → ℕ → Event ℕ
 add x y = event.Call 0 (x ∷ y ∷ [])
@@ -77,7 +131,7 @@ standing_in (Err cause) n = NeverCalled
 
 -- where call n stands after so many of the moves
 abbrev pub standing_after : ℕ → ℕ → Standing ℕ
-standing_after count n = standing_in (walk_from (specification_of adder) (first_walk (specification_of adder)) (take count two_calls_moves)) n
+standing_after count n = standing_in (walk_from adding (first_walk adding) (take count two_calls_moves)) n
 
 pub record TwoCalls : Type 0 where
   pub history : (adder_run two_calls).history ≡ two_calls_history
@@ -85,7 +139,7 @@ pub record TwoCalls : Type 0 where
   -- recovery makes its object, the boot hands it on, and both calls are under way after their starts
   pub made : (adder_run (take 2 two_calls)).threads ≡ Some (Recovers, Hands 1) ∷ []
   pub booted : (adder_run (take 3 two_calls)).receiver ≡ Some (Reference 1)
-  pub under_way : (adder_run (take 5 two_calls)).threads ≡ None ∷ Some (Answers 1, Sums add_op (1 ∷ 2 ∷ [])) ∷ Some (Answers 2, Sums add_op (3 ∷ 4 ∷ [])) ∷ []
+  pub under_way : (adder_run (take 5 two_calls)).threads ≡ None ∷ Some (Answers 1, Adds 1 2) ∷ Some (Answers 2, Adds 3 4) ∷ []
   pub all_ended : (adder_run two_calls).threads ≡ None ∷ None ∷ None ∷ []
   pub explained : IsTrue (is_ok (adder_walk two_calls_history two_calls_moves))
   pub explained_late : IsTrue (is_ok (adder_walk two_calls_history two_calls_late_moves))
@@ -114,35 +168,11 @@ pub record CrashedCall : Type 0 where
       ∷ entry.Call 2 0 ((2 ^ 64 - 1) ∷ 1 ∷ []) ∷ entry.Answer 2 0 ∷ []
   pub was_dropped : adder_outcome (take 4 crashed_call) (event.Step 2 0) ≡ Blocked
 
--- ---- Sums
-
--- the value of a Sum of two parts that begins with the first of two arguments
-abbrev pub two_parts : Turn → ℕ → ℕ → ℕ
-two_parts turn x y = sum_value (record add_op { rest = turn ∷ [] }) (x ∷ y ∷ [])
-
-abbrev pub plus : Part → Turn
-plus value = record { minus = false; part = value }
-
-abbrev pub minus : Part → Turn
-minus value = record { minus = true; part = value }
-
-pub record SumValues : Type 0 where
-  pub sum : two_parts (plus (part.Param 1)) 2 3 ≡ 5
-  pub around : two_parts (plus (part.Param 1)) (2 ^ 64 - 1) 3 ≡ 2
-  pub difference : two_parts (minus (part.Param 1)) 5 3 ≡ 2
-  pub below_zero : two_parts (minus (part.Param 1)) 3 5 ≡ 2 ^ 64 - 2
-  pub nothing : two_parts (minus (part.Param 0)) 5 3 ≡ 0
-  pub number : two_parts (minus (part.Number 3)) 10 0 ≡ 7
-  -- `10 - a + b - 1`, from the left
-  pub from_left : sum_value (record add_op { first = part.Number 10; rest = minus (part.Param 0) ∷ plus (part.Param 1) ∷ minus (part.Number 1) ∷ [] })
-      (4 ∷ 7 ∷ []) ≡ 12
-  pub alone : sum_value (record add_op { first = part.Param 1; rest = [] }) (4 ∷ 7 ∷ []) ≡ 7
-
--- ---- a package that does something else
+-- ---- a machine that does something else
 
 -- the specification of a sum isn't refined by a difference
 abbrev pub WrongPackage : Type 0
-WrongPackage = SmallRefinesWithoutCrash subtractor adder → ⊥
+WrongPackage = RefinesWithoutCrash subtractor adding → ⊥
 
 -- ---- what refuses a list of moves, at which move
 
@@ -176,7 +206,7 @@ pub record Refusals : Type 0 where
   pub helped : IsTrue (is_ok (adder_walk (entry.Boot ∷ entry.Call 1 0 (1 ∷ 2 ∷ []) ∷ entry.Crash ∷ entry.Boot ∷ [])
       (move.Other entry.Boot ∷ move.Other (entry.Call 1 0 (1 ∷ 2 ∷ [])) ∷ move.Other entry.Crash ∷ move.Act 1 [] ∷ move.Other entry.Boot ∷ [])))
   -- no moves at all explain the wrong answer
-  pub none_explains : (moves : List (Move ℕ)) → Explains (specification_of adder) moves (entry.Boot ∷ entry.Call 1 0 (1 ∷ 2 ∷ []) ∷ entry.Answer 1 4 ∷ []) → ⊥
+  pub none_explains : (moves : List (Move ℕ)) → Explains adding moves (entry.Boot ∷ entry.Call 1 0 (1 ∷ 2 ∷ []) ∷ entry.Answer 1 4 ∷ []) → ⊥
 
 -- ---- choices
 

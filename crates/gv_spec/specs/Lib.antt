@@ -10,7 +10,6 @@ pub mod Plain
 pub mod Refines
 pub mod RunLaws
 pub mod Runs
-pub mod Small
 pub mod Specification
 pub mod WalkLaws
 pub mod Walks

@@ -1,7 +1,6 @@
 -- Wrong definitions: what each of them would let pass. A definition of walks or runs is told again with
 -- one equation changed, and beside it stands what the definition itself says of the same moves or events.
 use Rattle.std.specs.Prelude.{◌≡◌, ℕ, ◌*◌, true, List, [], ◌∷◌, ◌++◌, fold, Option, Some, None, Result, Ok, Err, IsTrue, is_ok}
-use Rattle.gv_base.specs.declared.reason.Reason.{Reason}
 use Rattle.gv_base.specs.declared.reason.Reason.TheVariants as reason
 use Rattle.gv_spec.specs.Event as event
 use Rattle.gv_spec.specs.Entry as entry
@@ -12,10 +11,9 @@ use Rattle.gv_spec.specs.Move.{Move}
 use Rattle.gv_base.specs.declared.answer.Answer.{Answer}
 use Rattle.gv_base.specs.declared.answer.Answer.TheVariants.{Next, Undefined}
 use Rattle.gv_spec.specs.Machine.{Machine}
-use Rattle.gv_spec.specs.Runs.{Recovers, RunState, call_started, settled, first_state, crash_made, booted, after, outcome_of, run_of}
-use Rattle.gv_spec.specs.Walks.{Standing, Called, Acted, Answered, dropped, WalkState, WalkCause, Repeated, NotCalled, ActedAlready, NotActed, WrongReply, Missing, BadChoice, WalkFault, entered, onward, first_walk, walk_called, acted_to, walk_moved, walk_from, walk}
-use Rattle.gv_spec.specs.Small.{SmallThread, SmallResult, Reference, machine_of, specification_of}
-use Rattle.gv_spec.specs.Examples.{adder, add, adder_run, drawer}
+use Rattle.gv_spec.specs.Runs.{Recovers, RunState, call_started, settled, first_state, crash_made, after, outcome_of, run_of}
+use Rattle.gv_spec.specs.Walks.{Standing, Called, Acted, Answered, dropped, WalkState, WalkCause, Repeated, NotCalled, ActedAlready, NotActed, WrongReply, Missing, BadChoice, entered, onward, first_walk, walk_called, acted_to, walk_moved, walk_from, walk}
+use Rattle.gv_spec.specs.Examples.{AdderThread, AdderResult, Reference, adder, adding, add, adder_run, drawer}
 
 -- ---- walks, over a specification with a field and with choices
 
@@ -137,16 +135,16 @@ pub record WrongWalks : Type 0 where
   pub unshown : IsTrue (is_ok (walk_from drawer (first_walk drawer) []))
   pub shown : walk drawer (entry.Boot ∷ entry.Call 1 0 [] ∷ entry.Answer 1 99 ∷ []) [] ≡ Err (record { index = 1; cause = Missing })
 
--- ---- runs, of the package that adds
+-- ---- runs, of the machine that adds
 
 abbrev pub Run : Type 0
-Run = RunState (Unit {0}) SmallThread SmallResult ℕ
+Run = RunState (Unit {0}) AdderThread AdderResult ℕ
 
 abbrev pub adder_after : Run → Event ℕ → Run
-adder_after s e = after (machine_of adder) (specification_of adder).allows s e
+adder_after s e = after adder adding.allows s e
 
 abbrev pub adder_crashed : Run → Run
-adder_crashed s = crash_made (machine_of adder) s
+adder_crashed s = crash_made adder s
 
 -- a run in which a crash does this
 abbrev pub crash_after : (Run → Run) → Run → Event ℕ → Run
@@ -154,7 +152,7 @@ crash_after crashed s event.Crash = crashed s
 crash_after crashed s e = adder_after s e
 
 abbrev pub history_by : (Run → Event ℕ → Run) → List (Event ℕ) → List (Entry ℕ)
-history_by made events = (fold made (first_state (machine_of adder)) events).history
+history_by made events = (fold made (first_state adder) events).history
 
 -- by this equation the events would leave one history, and they leave another
 pub record LeavesWrongly (made : Run → Event ℕ → Run) (events : List (Event ℕ)) (wrong right : List (Entry ℕ)) : Type 0 where
@@ -163,7 +161,7 @@ pub record LeavesWrongly (made : Run → Event ℕ → Run) (events : List (Even
 
 -- a crash that keeps the threads
 abbrev pub keeps_threads : Run → Run
-keeps_threads s = record (adder_crashed s) { threads = s.threads ++ Some (Recovers, (machine_of adder).recovery) ∷ [] }
+keeps_threads s = record (adder_crashed s) { threads = s.threads ++ Some (Recovers, adder.recovery) ∷ [] }
 
 -- a crash that keeps the receiver
 abbrev pub keeps_receiver : Run → Run
@@ -171,15 +169,15 @@ keeps_receiver s = record (adder_crashed s) { receiver = s.receiver }
 
 -- a crash after which the numbers of threads begin again
 abbrev pub numbers_again : Run → Run
-numbers_again s = record (adder_crashed s) { threads = Some (Recovers, (machine_of adder).recovery) ∷ [] }
+numbers_again s = record (adder_crashed s) { threads = Some (Recovers, adder.recovery) ∷ [] }
 
 -- a crash that leaves no entry
 abbrev pub tells_nothing : Run → Run
 tells_nothing s = record (adder_crashed s) { history = s.history }
 
 -- a call that needs no boot
-abbrev pub called_early : Run → ℕ → List ℕ → Option SmallResult → Run
-called_early s op args None = settled s (call_started s op args ((machine_of adder).called (Reference 1) op args s.world))
+abbrev pub called_early : Run → ℕ → List ℕ → Option AdderResult → Run
+called_early s op args None = settled s (call_started s op args (adder.called (Reference 1) op args s.world))
 called_early s op args (Some receiver) = adder_after s (event.Call op args)
 
 abbrev pub calls_early : Run → Event ℕ → Run

@@ -5,26 +5,9 @@ ghost use Rattle.gv_spec.specs.WalkLaws.{WalkTells, ActsOnce, AnsweredActs, NoAc
 ghost use Rattle.gv_spec.specs.Plain.{SameWalks, ErasedExplains, SameExplained};
 ghost use Rattle.gv_spec.specs.WrongDefinitions.{WrongWalks, WrongRuns};
 ghost use Rattle.gv_spec.specs.Atomic.{WalksKeepSorts, FirstCallReplies};
-ghost use Rattle.gv_spec.specs.Examples.{TwoCalls, CrashedCall, SumValues, WrongPackage, Refusals, Choices, StartedThreads, SecondFailure};
-ghost use Rattle.gv_spec.specs.Small.{AgreeOps, SmallRefines, SmallRefinesWithoutCrash, RefinesOnlySameReplies};
+ghost use Rattle.gv_spec.specs.Examples.{TwoCalls, CrashedCall, WrongPackage, Refusals, Choices, StartedThreads, SecondFailure};
 
 use gv_atomic::Spec;
-use gv_base::Small;
-
-/// A package of the small form refines a specification of the small form that has the same
-/// operations with the same Sums: in every run, and so in every run without a crash.
-pub fn small_refines(program: &Small, small: &Small)
-    requires { AgreeOps program.now small.now }
-    ensures every { SmallRefines program.now small.now }
-    ensures without_crash { SmallRefinesWithoutCrash program.now small.now }
-{}
-
-/// A package of the small form that refines a specification of the small form, if only without
-/// crashes, gives its replies.
-#[tactic(auto, using(crate::proofs::Examples::refines_only_same))]
-pub fn small_replies()
-    ensures { RefinesOnlySameReplies }
-{}
 
 /// What no event changes, for any machine: an event that isn't possible changes nothing, and these
 /// aren't possible: a call before a boot, a step of a thread that has ended, the failure of a disk
@@ -81,13 +64,12 @@ pub fn written_walks(spec: &Spec)
 {}
 
 /// Worked runs, computed: two calls at the same time with their explanation, a call that a crash
-/// drops, values of Sums, a package that doesn't refine a specification, what refuses moves and
+/// drops, a machine that doesn't refine a specification, what refuses moves and
 /// where, choices, threads that start threads, and a second failure of a disk.
 #[tactic(auto, using(crate::proofs::Examples::two_calls_run, crate::proofs::Examples::crashed_call_run, crate::proofs::Examples::walk_refusals, crate::proofs::Examples::drawn_choices, crate::proofs::Examples::second_failure))]
 pub fn worked()
     ensures two_calls { TwoCalls }
     ensures crashed_call { CrashedCall }
-    ensures sums { SumValues }
     ensures wrong_package { WrongPackage }
     ensures refusals { Refusals }
     ensures choices { Choices }

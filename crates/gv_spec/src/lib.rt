@@ -12,7 +12,7 @@ pub use event::Event;
 pub use explanation::Move;
 pub use gv_atomic::{Assign, Field, Op, Pick, Spec, SpecFault, State, Var, make_spec};
 pub use laws::{
-    choosing_nothing, explanations, impossible_events, lasting, small_refines, small_replies,
-    worked, written_walks, wrong_definitions,
+    choosing_nothing, explanations, impossible_events, lasting, worked, written_walks,
+    wrong_definitions,
 };
 pub use meaning::{apply, crashed, init, meets_where, takes};

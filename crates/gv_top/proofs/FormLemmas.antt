@@ -9,7 +9,7 @@ use Rattle.gv_base.specs.declared.small.Small.{Small}
 use Rattle.gv_base.specs.declared.small.SmallOp.{SmallOp}
 use Rattle.gv_small.specs.Reading.{IsReadAs, IsStartRefusal, start_refusal}
 use Rattle.gv_small.proofs.Cuts.{false_true}
-use Rattle.gv_spec.specs.Small.{SameInterface}
+use Rattle.gv_smallprogram.specs.Sums.{SameInterface}
 use Rattle.gv_top.specs.Files.{IsReadIn}
 use Rattle.gv_top.specs.Forms.{small_form, placed_form}
 use Rattle.gv_text.specs.Answers.{Refuses}

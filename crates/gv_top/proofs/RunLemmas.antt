@@ -3,7 +3,7 @@ use Rattle.std.proofs.Common.{◌≡◌, ◌≢◌, ℕ, ◌<◌, ◌≤◌, Lis
 use Rattle.std.specs.Prelude.{◌↔◌}
 use Rattle.gv_base.specs.Outside.{Told}
 use Rattle.gv_base.specs.declared.small.Small.{Small}
-use Rattle.gv_spec.specs.Small.{AgreeOps}
+use Rattle.gv_smallprogram.specs.Sums.{AgreeOps}
 use Rattle.gv_smallprogram.specs.Program.{nothing_kept}
 use Rattle.gv_smallprogram.specs.Laws.{RefinesWritten}
 use Rattle.gv_smallprogram.proofs.Sound.{packages_are_sound}

@@ -5,7 +5,7 @@ use Rattle.std.specs.declared.alloc.Global.{Global}
 use Rattle.gv_base.specs.Outside.{Told}
 use Rattle.gv_base.specs.declared.small.Small.{Small}
 use Rattle.gv_atomic.specs.declared.spec.Spec.{Spec}
-use Rattle.gv_spec.specs.Small.{SameInterface}
+use Rattle.gv_smallprogram.specs.Sums.{SameInterface}
 use Rattle.gv_spec.specs.Refines.{RefinesWithoutCrash}
 use Rattle.gv_spec.specs.declared.entry.Entry.{Entry}
 use Rattle.gv_spec.specs.declared.explanation.Move.{Move}

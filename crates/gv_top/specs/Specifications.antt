@@ -11,7 +11,7 @@ use Rattle.gv_small.specs.Tokens.{start}
 use Rattle.gv_atomic.specs.declared.spec.Spec.{Spec}
 use Rattle.gv_specs.specs.Reading as written
 use Rattle.gv_smallspec.specs.SmallSpec.{IsSmallOf}
-use Rattle.gv_spec.specs.Small.{SameInterface}
+use Rattle.gv_smallprogram.specs.Sums.{SameInterface}
 
 -- a specification of the small form
 pub record IsSpecOf (text : List ℕ) (small : Small) : Type 0 where
