@@ -8,6 +8,7 @@ use Rattle.gv_base.specs.declared.answer.Answer.{Answer}
 use Rattle.gv_base.specs.declared.answer.Answer.TheVariants.{Blocked, Undefined}
 use Rattle.gv_base.specs.declared.reason.Reason.{Reason}
 use Rattle.gv_lang.specs.declared.program.Program.{Program}
+use Rattle.gv_lang.specs.Plain.{program_of}
 use Rattle.gv_terms.specs.declared.value.Value.{Value}
 use Rattle.gv_atomic.specs.declared.spec.Spec.{Spec}
 use Rattle.gv_spec.specs.declared.entry.Entry.{Entry}
@@ -93,7 +94,7 @@ plays_here g of s by state e count result new program spec h =
     subst₂ (λ p q. Plays p q state e count result new) program spec h
 
 module _ (g : Program) (s : Spec) where
-  run_more : (front more : List (Event Value)) → run g s (front ++ more) ≡ from g s (run g s front) more
+  run_more : (front more : List (Event Value)) → run (program_of g) s (front ++ more) ≡ from g s (run (program_of g) s front) more
   run_more front more = fold-append (after (of_package g s) (atomic_of s).allows) (first_state (of_package g s)) front more
 
   stuck_by : (fault : Option Reason) (reason : Reason) (made : Answer State) → fault ≡ Some reason → unless_undefined fault made ≡ Blocked
@@ -109,34 +110,34 @@ module _ (g : Program) (s : Spec) where
   stays now (e ∷ events) reason h =
       ap (λ z. from g s z events) (ap (settled now) (stuck now e reason h)) ∙ stays now events reason h
 
-  within_more : (front : List (Event Value)) (e : Event Value) (count : ℕ) → AreWithin g s front
-      → ((i : ℕ) → i < count → leaves_too_many (comes g s (from g s (run g s front) (replicate i e)) e) ≡ false) → AreWithin g s (front ++ replicate count e)
+  within_more : (front : List (Event Value)) (e : Event Value) (count : ℕ) → AreWithin (program_of g) s front
+      → ((i : ℕ) → i < count → leaves_too_many (comes g s (from g s (run (program_of g) s front) (replicate i e)) e) ≡ false) → AreWithin (program_of g) s (front ++ replicate count e)
   within_more front e count h k n x there =
       elim (got front (replicate count e) n x there) [
-        | inl found ↦ ap (λ zs. leaves_too_many (outcome g s zs x)) found.1 ∙ h n x found.0
+        | inl found ↦ ap (λ zs. leaves_too_many (outcome (program_of g) s zs x)) found.1 ∙ h n x found.0
         | inr found ↦
             let copy = got_copy count e x found.0 found.1 in
-            ap (λ zs. leaves_too_many (outcome g s zs x)) (found.2 ∙ ap (λ zs. front ++ zs) copy.front)
+            ap (λ zs. leaves_too_many (outcome (program_of g) s zs x)) (found.2 ∙ ap (λ zs. front ++ zs) copy.front)
             ∙ ap (λ z. leaves_too_many (comes g s z x)) (run_more front (replicate found.0 e))
-            ∙ ap (λ z. leaves_too_many (comes g s (from g s (run g s front) (replicate found.0 e)) z)) copy.is ∙ k found.0 copy.some
+            ∙ ap (λ z. leaves_too_many (comes g s (from g s (run (program_of g) s front) (replicate found.0 e)) z)) copy.is ∙ k found.0 copy.some
       ]
 
   -- an undefined event, and what comes behind it
-  within_stuck : (front more : List (Event Value)) (e : Event Value) (reason : Reason) → AreWithin g s front → outcome g s front e ≡ Undefined reason
-      → AreWithin g s (front ++ e ∷ more)
+  within_stuck : (front more : List (Event Value)) (e : Event Value) (reason : Reason) → AreWithin (program_of g) s front → outcome (program_of g) s front e ≡ Undefined reason
+      → AreWithin (program_of g) s (front ++ e ∷ more)
   within_stuck front more e reason h u n x there =
       elim (got front (e ∷ more) n x there) [
-        | inl found ↦ ap (λ zs. leaves_too_many (outcome g s zs x)) found.1 ∙ h n x found.0
-        | inr found ↦ ap (λ zs. leaves_too_many (outcome g s zs x)) found.2 ∙ behind found.0 found.1
+        | inl found ↦ ap (λ zs. leaves_too_many (outcome (program_of g) s zs x)) found.1 ∙ h n x found.0
+        | inr found ↦ ap (λ zs. leaves_too_many (outcome (program_of g) s zs x)) found.2 ∙ behind found.0 found.1
       ]
     where
-      behind : (i : ℕ) → slice_get (e ∷ more) i ≡ Some x → leaves_too_many (outcome g s (front ++ take i (e ∷ more)) x) ≡ false
+      behind : (i : ℕ) → slice_get (e ∷ more) i ≡ Some x → leaves_too_many (outcome (program_of g) s (front ++ take i (e ∷ more)) x) ≡ false
       behind zero is =
           let same : e ≡ x = cc in
-          ap (λ zs. leaves_too_many (outcome g s zs x)) (append-nil front) ∙ ap (λ z. leaves_too_many (outcome g s front z)) (sym same) ∙ ap leaves_too_many u
+          ap (λ zs. leaves_too_many (outcome (program_of g) s zs x)) (append-nil front) ∙ ap (λ z. leaves_too_many (outcome (program_of g) s front z)) (sym same) ∙ ap leaves_too_many u
       behind (suc i) is =
-          let last : State = after (of_package g s) (atomic_of s).allows (run g s front) e in
-          let broken : last.fault ≡ Some reason = ap (λ a. (settled (run g s front) a).fault) u in
+          let last : State = after (of_package g s) (atomic_of s).allows (run (program_of g) s front) e in
+          let broken : last.fault ≡ Some reason = ap (λ a. (settled (run (program_of g) s front) a).fault) u in
           ap (λ z. leaves_too_many (comes g s z x)) (run_more front (e ∷ take i more) ∙ stays last (take i more) reason broken)
           ∙ ap leaves_too_many (stuck last x reason broken)
 
@@ -146,8 +147,8 @@ module _ (g : Program) (s : Spec) where
     pub front : List (Event Value)
     pub split : events_of lines ≡ front ++ events_of rest
     pub number : before ≡ length front
-    pub is : now ≡ run g s front
-    pub within : AreWithin g s front
+    pub is : now ≡ run (program_of g) s front
+    pub within : AreWithin (program_of g) s front
     pub defined : now.fault ≡ None
     pub places : (n : ℕ) → place_of lines (length front + n) ≡ place_of rest n
 
@@ -172,10 +173,10 @@ module _ (g : Program) (s : Spec) where
     reached_length : (i : ℕ) → length (reached i) ≡ before + i
     reached_length i = omega (arith, length-append played.front (replicate i e), length-replicate i e, played.number)
 
-    from_now : (i : ℕ) → from g s now (replicate i e) ≡ run g s (reached i)
+    from_now : (i : ℕ) → from g s now (replicate i e) ≡ run (program_of g) s (reached i)
     from_now i = ap (λ z. from g s z (replicate i e)) played.is ∙ sym (run_more played.front (replicate i e))
 
-    reached_within : (i : ℕ) (last : State) → IsThrough g s now e i last → AreWithin g s (reached i)
+    reached_within : (i : ℕ) (last : State) → IsThrough g s now e i last → AreWithin (program_of g) s (reached i)
     reached_within i last through =
         within_more played.front e i played.within
         (λ j h. ap (λ z. leaves_too_many (comes g s (from g s z (replicate j e)) e)) (sym played.is) ∙ through.within j h)
@@ -216,51 +217,51 @@ module _ (g : Program) (s : Spec) where
     front_here i h = ap (take (length (reached i))) (parted i h).is ∙ take_at (reached i) (e ∷ (parted i h).more) (length (reached i)) refl
 
     pub ran_undefined : (history : List Entry) (number : ℕ) (reason : Reason) → IsStopped g s now e l.count number reason next
-        → map entry_of history ≡ next.history → IsRan g s lines (record { history = history; undefined = Some (before + number, reason) })
+        → map entry_of history ≡ next.history → IsRan (program_of g) s lines (record { history = history; undefined = Some (before + number, reason) })
     ran_undefined history number reason stopped told =
         let i = stopped.before in
-        let last_is : stopped.last ≡ run g s (reached i) = stopped.through.is ∙ from_now i in
-        let undefined : outcome g s (reached i) e ≡ Undefined reason = ap (λ z. comes g s z e) (sym last_is) ∙ stopped.undefined in
+        let last_is : stopped.last ≡ run (program_of g) s (reached i) = stopped.through.is ∙ from_now i in
+        let undefined : outcome (program_of g) s (reached i) e ≡ Undefined reason = ap (λ z. comes g s z e) (sym last_is) ∙ stopped.undefined in
         let rest_of = parted i stopped.some in
         let broken : next.fault ≡ Some reason = ap (λ z. z.fault) (stopped.is ∙ ap (settled stopped.last) stopped.undefined) in
-        let whole : run g s (events_of lines) ≡ next =
-        ap (run g s) rest_of.is ∙ run_more (reached i) (e ∷ rest_of.more)
+        let whole : run (program_of g) s (events_of lines) ≡ next =
+        ap (run (program_of g) s) rest_of.is ∙ run_more (reached i) (e ∷ rest_of.more)
         ∙ ap (λ z. from g s (after (of_package g s) (atomic_of s).allows z e) rest_of.more) (sym last_is)
         ∙ ap (λ z. from g s z rest_of.more) (sym stopped.is) ∙ stays next rest_of.more reason broken in
         record {
           history = told ∙ ap (λ z. z.history) (sym whole);
-          within = subst (AreWithin g s) (sym rest_of.is)
+          within = subst (AreWithin (program_of g) s) (sym rest_of.is)
               (within_stuck (reached i) rest_of.more e reason (reached_within i stopped.last stopped.through) undefined);
           undefined = record {
             before = length (reached i);
             event = e;
             there = here i stopped.some;
             numbered = omega (arith, stopped.numbered, reached_length i);
-            undefined = ap (λ xs. outcome g s xs e) (front_here i stopped.some) ∙ undefined;
+            undefined = ap (λ xs. outcome (program_of g) s xs e) (front_here i stopped.some) ∙ undefined;
           };
         }
 
-    pub too_many : (i : ℕ) → IsOver g s now e l.count i → IsTooMany g s lines l.place
+    pub too_many : (i : ℕ) → IsOver g s now e l.count i → IsTooMany (program_of g) s lines l.place
     too_many i over =
-        let last_is : over.last ≡ run g s (reached i) = over.through.is ∙ from_now i in
+        let last_is : over.last ≡ run (program_of g) s (reached i) = over.through.is ∙ from_now i in
         let at : length (reached i) ≡ length played.front + i = omega (arith, reached_length i, played.number) in
         record {
           before = length (reached i);
           event = e;
           there = here i over.some;
-          within = subst (AreWithin g s) (sym (front_here i over.some)) (reached_within i over.last over.through);
-          over = ap (λ xs. leaves_too_many (outcome g s xs e)) (front_here i over.some)
+          within = subst (AreWithin (program_of g) s) (sym (front_here i over.some)) (reached_within i over.last over.through);
+          over = ap (λ xs. leaves_too_many (outcome (program_of g) s xs e)) (front_here i over.some)
               ∙ ap (λ z. leaves_too_many (comes g s z e)) (sym last_is) ∙ over.over;
           placed = ap (place_of lines) at ∙ played.places i
               ∙ ap (λ b. if b then Some l.place else place_of rest (i - l.count)) (lt-ltb i l.count over.some);
         }
 
   pub ran_through : (lines : List Line) (before : ℕ) (now : State) (history : List Entry) → IsPlayed lines [] before now
-      → map entry_of history ≡ now.history → IsRan g s lines (record { history = history; undefined = None })
+      → map entry_of history ≡ now.history → IsRan (program_of g) s lines (record { history = history; undefined = None })
   ran_through lines before now history played told =
       let all : events_of lines ≡ played.front = played.split ∙ append-nil played.front in
       record {
-        history = told ∙ ap (λ z. z.history) (played.is ∙ ap (run g s) (sym all));
-        within = subst (AreWithin g s) (sym all) played.within;
-        undefined = ap (λ z. z.fault) (ap (run g s) all ∙ sym played.is) ∙ played.defined;
+        history = told ∙ ap (λ z. z.history) (played.is ∙ ap (run (program_of g) s) (sym all));
+        within = subst (AreWithin (program_of g) s) (sym all) played.within;
+        undefined = ap (λ z. z.fault) (ap (run (program_of g) s) all ∙ sym played.is) ∙ played.defined;
       }

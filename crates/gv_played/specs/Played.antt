@@ -4,7 +4,7 @@ use Rattle.gv_base.specs.declared.answer.Answer.{Answer}
 use Rattle.gv_base.specs.declared.answer.Answer.TheVariants.{Undefined}
 use Rattle.gv_base.specs.declared.answers.Place.{Place}
 use Rattle.gv_base.specs.declared.reason.Reason.{Reason}
-use Rattle.gv_lang.specs.declared.program.Program.{Program}
+use Rattle.gv_lang.specs.Tree.{Program}
 use Rattle.gv_terms.specs.declared.value.Value.{Value}
 use Rattle.gv_atomic.specs.declared.spec.Spec.{Spec}
 use Rattle.gv_spec.specs.Atomic.{atomic_of}
@@ -12,7 +12,7 @@ use Rattle.gv_spec.specs.Event.{Event}
 use Rattle.gv_spec.specs.History.{entry_of, event_of}
 use Rattle.gv_spec.specs.Runs.{outcome_of, run_of}
 use Rattle.gv_runs.specs.Laws.{State}
-use Rattle.gv_machine.specs.Machines.{of_package}
+use Rattle.gv_runs.specs.Machine.{machine_of, setting_of}
 use Rattle.gv_machine.specs.Outcomes.{leaves_too_many}
 use Rattle.gv_replay.specs.declared.schedule.Line.{Line}
 use Rattle.gv_played.specs.declared.fault.ReplayFault.{ReplayFault}
@@ -32,11 +32,11 @@ place_of (l ∷ ls) n = if nat_lt n l.count then Some l.place else place_of ls (
 module _ (g : Program) (s : Spec) where
   -- the state after these events
   abbrev pub run : List (Event Value) → State
-  run events = run_of (of_package g s) (atomic_of s).allows events
+  run events = run_of (machine_of g (setting_of s)) (atomic_of s).allows events
 
   -- what comes of an event after these
   abbrev pub outcome : List (Event Value) → Event Value → Answer State
-  outcome front e = outcome_of (of_package g s) (atomic_of s).allows (run front) e
+  outcome front e = outcome_of (machine_of g (setting_of s)) (atomic_of s).allows (run front) e
 
   -- no event would leave too many live cells
   abbrev pub AreWithin : List (Event Value) → Type 0

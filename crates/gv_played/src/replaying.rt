@@ -1,6 +1,7 @@
 //! The run of a schedule.
 
 ghost use Rattle.std.specs.Prelude.{◌≡◌, ◌≤◌, All, IfOk, IfErr, map, sum};
+ghost use Rattle.gv_lang.specs.Plain.{program_of};
 ghost use Rattle.gv_spec.specs.History.{IsEventOf};
 ghost use Rattle.gv_played.specs.Played.{IsRan, IsFault};
 
@@ -35,8 +36,8 @@ pub fn replay(
 ) -> Result<Ran, ReplayFault>
     requires of_spec { All (λ l. IsEventOf spec.now l.event) s.now.events }
     requires few { sum (map (λ l. l.count) s.now.events) ≤ 1000000 }
-    ensures ran { IfOk result (IsRan program.now spec.now s.now.events) }
-    ensures fault { IfErr result (IsFault program.now spec.now s.now.events) }
+    ensures ran { IfOk result (IsRan (program_of program.now) spec.now s.now.events) }
+    ensures fault { IfErr result (IsFault (program_of program.now) spec.now s.now.events) }
 {
     let mut machine = Machine::start(alloc, program, spec)?;
     let mut before = 0;
