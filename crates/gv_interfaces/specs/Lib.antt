@@ -1,0 +1,5 @@
+pub mod Deciding
+pub mod Interfaces
+pub mod Laws
+pub mod Places
+pub mod Tables
