@@ -55,12 +55,16 @@ WALK_CAUSES = [
 
 STATUSES = [
     (0, "accepted", "`accepted for runs without crash`"),
+    (0, "explained", "`explained`"),
+    (0, "a schedule was run to its end", "the history, an entry a line, and `end`"),
     (1, "unjustified", "`unjustified LINE:COL CAUSE`, the place in the script"),
+    (1, "not explained", "`not explained at K CAUSE`, the number of a move from 1"),
     (2, "the words are no command", "the usage line"),
     (3, "a file can't be read", "`cannot read NAME`"),
     (4, "a text is refused", "`NAME:LINE:COL CODE`"),
     (5, "out of memory", "`out of memory`"),
     (6, "the report can't be written", "a prefix of it"),
+    (8, "an event of a schedule was undefined", "the history so far, and `undefined K REASON`, the number of the event from 1"),
 ]
 
 # what the first words of a case say of its text
@@ -147,7 +151,8 @@ def page():
         "|---|---|---|---|---|---|",
     ]
     found = refusals()
-    elsewhere = {"TooLong": "any file: [small forms](small-forms.md)", "TooDeep": "specification: [its text](specifications.md)"}
+    elsewhere = {"Interface": "package or specification: [the program](program.md#replay)", "TooManyCells": "schedule: [the machine](machine.md)",
+                 "TooLong": "any file: [small forms](small-forms.md)", "TooDeep": "specification: [its text](specifications.md)"}
     for number, (code, meaning) in enumerate(CODES, 1):
         cases = sorted(found.get(code, []))
         if cases:

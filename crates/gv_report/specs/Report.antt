@@ -8,9 +8,10 @@ use Rattle.gv_report.specs.declared.cause.Cause.{Cause}
 use Rattle.gv_report.specs.declared.cause.Cause.TheVariants as cause
 use Rattle.gv_report.specs.declared.report.Report.{Report}
 use Rattle.gv_report.specs.declared.report.Report.TheVariants.{Usage, OutOfMemory, CannotRead, Refused, Unjustified, AcceptedWithoutCrash}
-use Rattle.gv_report.specs.declared.report.Report.TheVariants.{Explained, NotExplained}
+use Rattle.gv_report.specs.declared.report.Report.TheVariants.{Explained, NotExplained, Ran}
 use Rattle.gv_report.specs.declared.bytes.Bytes.{Bytes}
 use Rattle.gv_report.specs.declared.bytes.Bytes.TheVariants.{Fixed, Made}
+use Rattle.gv_report.specs.Ran.{ran_lines, ran_status}
 
 -- ---- parts of lines
 
@@ -33,6 +34,7 @@ status_of Usage = 2
 status_of (CannotRead name) = 3
 status_of (Refused name place code) = 4
 status_of OutOfMemory = 5
+status_of (Ran ran) = ran_status ran
 
 -- the lines without their newlines
 abbrev pub lines_of : Report → List (List ℕ)
@@ -46,6 +48,7 @@ lines_of Usage =
 lines_of (CannotRead name) = (codes "cannot read " ++ name) ∷ []
 lines_of (Refused name place code) = (name ++ codes ":" ++ place_text place ++ codes " " ++ code_name code) ∷ []
 lines_of OutOfMemory = codes "out of memory" ∷ []
+lines_of (Ran ran) = ran_lines ran
 
 -- ---- its text
 

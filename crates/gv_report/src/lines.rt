@@ -68,5 +68,6 @@ pub fn text(alloc: Global, report: &Report) -> Result<Vec<u8>, NoMemory>
         Report::CannotRead { name } => unread(alloc, name),
         Report::Refused { name, place, code } => refused(alloc, name, *place, *code),
         Report::OutOfMemory => Ok(Vec::from_slice(alloc, OUT_OF_MEMORY)?),
+        Report::Ran(ran) => ran.text(alloc),
     }
 }

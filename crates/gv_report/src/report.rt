@@ -4,6 +4,7 @@ ghost use Rattle.std.specs.Prelude.{◌≡◌};
 ghost use Rattle.gv_report.specs.Report.{status_of};
 
 use crate::cause::Cause;
+use crate::ran::Ran;
 use gv_base::{Code, Name, Place};
 use gv_history::WalkCause;
 
@@ -38,10 +39,12 @@ pub enum Report {
         at: u32,
         cause: WalkCause,
     },
+    /// The lines of the history that a schedule came to, and the event that was undefined, if one was.
+    Ran(Ran),
 }
 
 impl Report {
-    /// The status that the program ends with where the report is written, from 0 to 5.
+    /// The status that the program ends with where the report is written, from 0 to 5, or 8.
     pub fn status(&self) -> u8
         ensures { result ≡ status_of self.now }
     {
@@ -52,6 +55,7 @@ impl Report {
             Report::CannotRead { .. } => 3,
             Report::Refused { .. } => 4,
             Report::OutOfMemory => 5,
+            Report::Ran(ran) => ran.status(),
         }
     }
 }

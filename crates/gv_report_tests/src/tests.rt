@@ -1,8 +1,8 @@
 //! The line and the status of each report, and a report that is cut off.
 
-use gv_base::{Code, List, MemSink, Name, Place, SureSink};
+use gv_base::{Code, List, MemSink, Name, Place, Reason, SureSink};
 use gv_history::WalkCause;
-use gv_report::{Answer, Cause, Report, text};
+use gv_report::{Answer, Cause, Ran, Report, text};
 use std::alloc::Global;
 use std::process::Abort;
 use std::test::Fail;
@@ -77,6 +77,42 @@ fn tells_each_report(rt: HostRuntime) -> Result<(), Fail> {
         2,
         b"usage: goosecheck check PKG SPEC SCRIPT, replay PKG SPEC SCHEDULE, explain SPEC HISTORY MOVES, points PKG, gen NUMBER, each with or without json\n",
     )
+}
+
+// A run to its end, one that ends at an undefined event, and one without lines.
+#[test]
+fn tells_runs(rt: HostRuntime) -> Result<(), Fail> {
+    let alloc = rt.alloc();
+    let ended = Ran {
+        lines: List::from_vec(vec![in alloc;
+            Name::from_slice(alloc, b"boot")?,
+            Name::from_slice(alloc, b"call 1 Inc")?,
+        ]?),
+        undefined: None,
+    };
+    tells(
+        &rt,
+        alloc,
+        Report::Ran(ended),
+        0,
+        b"boot\ncall 1 Inc\nend\n",
+    )?;
+    let raced = Ran {
+        lines: List::from_vec(vec![in alloc; Name::from_slice(alloc, b"boot")?]?),
+        undefined: Some((7, Reason::Race)),
+    };
+    tells(
+        &rt,
+        alloc,
+        Report::Ran(raced),
+        8,
+        b"boot\nundefined 7 Race\n",
+    )?;
+    let nothing = Ran {
+        lines: List::new(alloc),
+        undefined: None,
+    };
+    tells(&rt, alloc, Report::Ran(nothing), 0, b"end\n")
 }
 
 // A sink with room for eight bytes, and one whose first put fails.

@@ -46,19 +46,19 @@ params_same ts us (Some o) None e = absurd cc
 params_same ts us (Some o) (Some p) e = let same : shown_op ts o ≡ shown_op us p = cc in ap (λ (x : ShownOp). x.params) same
 
 module _ (s t : Spec) (alike : AreAlike s t) where
-  params_at_same : (op : ℕ) → params_at s op ≡ params_at t op
+  pub params_at_same : (op : ℕ) → params_at s op ≡ params_at t op
   params_at_same op = params_same s.store t.store (slice_get s.ops op) (slice_get t.ops op) (ops_at s t alike op)
 
-  op_same : (name : List ℕ) → op_named name s.ops ≡ op_named name t.ops
+  pub op_same : (name : List ℕ) → op_named name s.ops ≡ op_named name t.ops
   op_same name = named_same s.store t.store name s.ops t.ops alike.ops
 
   -- ---- lines
 
-  arity_by_same : (c : CallLine) (o : Option ℕ) → arity_by s c o ≡ arity_by t c o
+  pub arity_by_same : (c : CallLine) (o : Option ℕ) → arity_by s c o ≡ arity_by t c o
   arity_by_same c None = refl
   arity_by_same c (Some op) = ap (λ (vs : List Var). let r : Result (Unit {0}) Fault = if length vs == length c.args then Ok tt else Err (c.at, codes.WrongCount) in r) (params_at_same op)
 
-  called_by_same : (c : CallLine) (o : Option ℕ) → called_by s c o ≡ called_by t c o
+  pub called_by_same : (c : CallLine) (o : Option ℕ) → called_by s c o ≡ called_by t c o
   called_by_same c None = refl
   called_by_same c (Some op) = ap (λ (vs : List Var). map_ok (with_values op) (values_for vs c.args)) (params_at_same op)
 
@@ -106,7 +106,7 @@ module _ (s t : Spec) (alike : AreAlike s t) where
 
   -- ---- entries and moves of a specification
 
-  args_same : (op : ℕ) (args : List Value) → are_args s op args ≡ are_args t op args
+  pub args_same : (op : ℕ) (args : List Value) → are_args s op args ≡ are_args t op args
   args_same op args = args_at s t alike args (slice_get s.ops op) (slice_get t.ops op) (ops_at s t alike op)
 
   entry_of_same : (e : Entry) → IsEntryOf s e → IsEntryOf t e

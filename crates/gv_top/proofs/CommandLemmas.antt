@@ -5,7 +5,7 @@ use Rattle.std.specs.Str.{bytes_eq}
 use Rattle.std.specs.declared.string.String.{String}
 use Rattle.std.specs.declared.alloc.Global.{Global}
 use Rattle.std.proofs.lemmas.Option.{slice_get_within}
-use Rattle.gv_top.specs.Commands.{Command, check, explain, words_of, Asks, asks_for_json, texts, AreWordsOf}
+use Rattle.gv_top.specs.Commands.{Command, check, explain, replay, words_of, Asks, asks_for_json, texts, AreWordsOf}
 
 -- ---- the last word
 
@@ -43,7 +43,8 @@ none_on P Q (Some x) f h = tt
 
 -- the command of four words
 of_words : List ℕ → List ℕ → List ℕ → List ℕ → Option Command
-of_words w a b c = if bytes_eq w (codes "check") then Some (check a b c) else if bytes_eq w (codes "explain") then Some (explain a b c) else None
+of_words w a b c = if bytes_eq w (codes "check") then Some (check a b c) else if bytes_eq w (codes "explain") then Some (explain a b c)
+    else if bytes_eq w (codes "replay") then Some (replay a b c) else None
 
 command_in : List (List ℕ) → Option Command
 command_in (w ∷ a ∷ b ∷ c ∷ []) = of_words w a b c
@@ -53,6 +54,7 @@ command_is : (c : Command) → command_in (words_of c) ≡ Some c
 unfolding command_in of_words
 command_is (check p s t) = refl
 command_is (explain s h m) = refl
+command_is (replay p s c) = refl
 
 some_same : {A : Type 0} (x y : A) → Some x ≡ Some y → x ≡ y
 some_same x y e = cc

@@ -42,7 +42,7 @@ use Rattle.gv_top.proofs.StageLemmas.{IsExact, placed_exact, Same, stage}
 
 -- ---- forms
 
-specs_exact : IsExact written_specs
+pub specs_exact : IsExact written_specs
 specs_exact = placed_exact written.Spells written.IsRefused (λ text s at code h r. specs.only_so text (Err (refusal.At (place_at text at) code)) (at, refl, r) s h)
     (λ text m n c d h k. specs.fault_so text (Err (refusal.At (place_at text m) c)) tt (m, refl, h) n d k)
 
@@ -110,7 +110,7 @@ finishes_same s history moves (Err (Refused name place code)) q h k n = absurd h
 
 -- ---- what one specification gives, a specification alike gives
 
-other_form : {A : Type 0} (source : Source) (form other : Form A) (name : List ℕ) → ((text : List ℕ) (x : A) → form.spells text x → other.spells text x)
+pub other_form : {A : Type 0} (source : Source) (form other : Form A) (name : List ℕ) → ((text : List ℕ) (x : A) → form.spells text x → other.spells text x)
     → ((text : List ℕ) (place : Place) (code : Code) → form.refuses text place code → other.refuses text place code) → {O : Type 0} (o : Result O Halt) (P Q : A → Result O Halt → Type 0) → ((x : A) → P x o → Q x o)
     → Then source form name P o → Then source other name Q o
 other_form source form other name spells refuses o P Q next (inl (halt, e, h)) = inl (halt, e, halted halt h)

@@ -1,5 +1,6 @@
 pub mod AlikeLines
 pub mod AlikeMeaning
+pub mod AlikeSchedules
 pub mod CheckExact
 pub mod CheckLemmas
 pub mod CommandLemmas
@@ -14,6 +15,8 @@ pub mod LawLemmas
 pub mod LinesLemmas
 pub mod OutcomeLemmas
 pub mod PackageForm
+pub mod ReplayExact
+pub mod ReplayLemmas
 pub mod RunLemmas
 pub mod ScriptLemmas
 pub mod SpecForm

@@ -1,5 +1,5 @@
 -- What a report tells of the outcome that it comes of.
-use Rattle.std.proofs.Common.{◌≡◌, ℕ, ◌≤◌, List, Result, Ok, Err, refl, sym, subst, inl, inr, arith}
+use Rattle.std.proofs.Common.{◌≡◌, ℕ, ◌≤◌, List, Result, Ok, Err, refl, sym, ap, subst, ◌⊎◌, inl, inr, arith}
 use Rattle.gv_base.specs.declared.answers.Code.{Code}
 use Rattle.gv_base.specs.declared.answers.Place.{Place}
 use Rattle.gv_report.specs.declared.report.Report.{Report}
@@ -13,6 +13,8 @@ use Rattle.gv_top.specs.declared.files.Halt.{Halt}
 use Rattle.gv_top.specs.declared.files.Halt.TheVariants.{NoMemory, CannotRead, Refused}
 use Rattle.gv_top.specs.Check.{report_of as check_report}
 use Rattle.gv_top.specs.Explain.{report_of as explain_report}
+use Rattle.gv_report.specs.declared.ran.Ran.{Ran}
+use Rattle.gv_top.specs.Replay.{report_of as replay_report}
 use Rattle.gv_top.specs.Commands.{reported}
 use Rattle.gv_top.specs.Files.{Asked, Source, Form, Reads, HaltsAt, Then, IsBlamed, NoneFailed}
 use Rattle.gv_top.specs.Run.{IsBlamedIn}
@@ -24,6 +26,7 @@ IsOwn report.AcceptedWithoutCrash = Unit {0}
 IsOwn (report.Unjustified place why) = Unit {0}
 IsOwn report.Explained = Unit {0}
 IsOwn (report.NotExplained at why) = Unit {0}
+IsOwn (report.Ran ran) = Unit {0}
 IsOwn report.Usage = ⊥
 IsOwn report.OutOfMemory = ⊥
 IsOwn (report.CannotRead name) = ⊥
@@ -34,6 +37,7 @@ own_blamed a report.AcceptedWithoutCrash o h = h
 own_blamed a (report.Unjustified place why) o h = h
 own_blamed a report.Explained o h = h
 own_blamed a (report.NotExplained at why) o h = h
+own_blamed a (report.Ran ran) o h = h
 own_blamed a report.Usage o h = absurd o
 own_blamed a report.OutOfMemory o h = absurd o
 own_blamed a (report.CannotRead name) o h = absurd o
@@ -44,6 +48,7 @@ blamed_own a report.AcceptedWithoutCrash o h = h
 blamed_own a (report.Unjustified place why) o h = h
 blamed_own a report.Explained o h = h
 blamed_own a (report.NotExplained at why) o h = h
+blamed_own a (report.Ran ran) o h = h
 blamed_own a report.Usage o h = absurd o
 blamed_own a report.OutOfMemory o h = absurd o
 blamed_own a (report.CannotRead name) o h = absurd o
@@ -56,6 +61,9 @@ check_own AcceptedWithoutCrash = tt
 pub explain_own : (e : Explanation) → IsOwn (explain_report e)
 explain_own Explained = tt
 explain_own (NotExplained at why) = tt
+
+pub replay_own : (ran : Ran) → IsOwn (replay_report ran)
+replay_own ran = tt
 
 -- ---- outcomes of any command
 
@@ -107,6 +115,45 @@ explained_never_accepts (Ok (NotExplained at why)) e = cc
 explained_never_accepts (Err NoMemory) e = cc
 explained_never_accepts (Err (CannotRead name)) e = cc
 explained_never_accepts (Err (Refused name place code)) e = cc
+
+-- ---- runs
+
+pub check_never_ran : (o : Result Verdict Halt) (ran : Ran) → report.Ran ran ≡ reported check_report o → ⊥
+check_never_ran (Ok (Unjustified place why)) ran e = cc
+check_never_ran (Ok AcceptedWithoutCrash) ran e = cc
+check_never_ran (Err NoMemory) ran e = cc
+check_never_ran (Err (CannotRead name)) ran e = cc
+check_never_ran (Err (Refused name place code)) ran e = cc
+
+pub explain_never_ran : (o : Result Explanation Halt) (ran : Ran) → report.Ran ran ≡ reported explain_report o → ⊥
+explain_never_ran (Ok Explained) ran e = cc
+explain_never_ran (Ok (NotExplained at why)) ran e = cc
+explain_never_ran (Err NoMemory) ran e = cc
+explain_never_ran (Err (CannotRead name)) ran e = cc
+explain_never_ran (Err (Refused name place code)) ran e = cc
+
+pub ran_of : (o : Result Ran Halt) (ran : Ran) → report.Ran ran ≡ reported replay_report o → o ≡ Ok ran
+ran_of (Ok other) ran e = let same : ran ≡ other = cc in ap Ok (sym same)
+ran_of (Err NoMemory) ran e = absurd cc
+ran_of (Err (CannotRead name)) ran e = absurd cc
+ran_of (Err (Refused name place code)) ran e = absurd cc
+
+pub replay_never_accepts : (o : Result Ran Halt) → report.AcceptedWithoutCrash ≡ reported replay_report o → ⊥
+replay_never_accepts (Ok ran) e = cc
+replay_never_accepts (Err NoMemory) e = cc
+replay_never_accepts (Err (CannotRead name)) e = cc
+replay_never_accepts (Err (Refused name place code)) e = cc
+
+-- the status 0, or 8, is that of a run
+pub replay_came : {R : Type 0} (o : Result Ran Halt) → (status_of (reported replay_report o) ≡ 0) ⊎ (status_of (reported replay_report o) ≡ 8)
+    → ((ran : Ran) → o ≡ Ok ran → R) → R
+replay_came (Ok ran) l next = next ran refl
+replay_came (Err NoMemory) (inl e) next = absurd (omega (arith, e))
+replay_came (Err NoMemory) (inr e) next = absurd (omega (arith, e))
+replay_came (Err (CannotRead n)) (inl e) next = absurd (omega (arith, e))
+replay_came (Err (CannotRead n)) (inr e) next = absurd (omega (arith, e))
+replay_came (Err (Refused n q d)) (inl e) next = absurd (omega (arith, e))
+replay_came (Err (Refused n q d)) (inr e) next = absurd (omega (arith, e))
 
 -- ---- one file after the other
 

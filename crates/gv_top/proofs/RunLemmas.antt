@@ -1,5 +1,5 @@
 -- What a status tells, and what an answer promises.
-use Rattle.std.proofs.Common.{◌≡◌, ◌≢◌, ℕ, ◌<◌, ◌≤◌, List, Result, Ok, Err, refl, sym, ap, subst, ◌∙◌, ◌⊎◌, inl, inr, arith}
+use Rattle.std.proofs.Common.{◌≡◌, ◌≢◌, ℕ, ◌<◌, ◌≤◌, List, Option, Some, None, Result, Ok, Err, refl, sym, ap, subst, ◌∙◌, ◌⊎◌, inl, inr, arith}
 use Rattle.std.specs.Prelude.{◌↔◌}
 use Rattle.gv_base.specs.Outside.{Told}
 use Rattle.gv_base.specs.declared.small.Small.{Small}
@@ -13,8 +13,10 @@ use Rattle.gv_spec.specs.History.{IsExplanation, walked}
 use Rattle.gv_history.specs.declared.fault.WalkCause.{WalkCause}
 use Rattle.gv_history.specs.Fault.{cause_of}
 use Rattle.gv_report.specs.declared.report.Report.{Report}
-use Rattle.gv_report.specs.declared.report.Report.TheVariants.{Usage, OutOfMemory, CannotRead, Refused, Unjustified, AcceptedWithoutCrash, Explained, NotExplained}
+use Rattle.gv_report.specs.declared.report.Report.TheVariants.{Usage, OutOfMemory, CannotRead, Refused, Unjustified, AcceptedWithoutCrash, Explained, NotExplained, Ran}
 use Rattle.gv_report.specs.Report.{status_of, text_of, IsAnswerTo}
+use Rattle.gv_base.specs.declared.reason.Reason.{Reason}
+use Rattle.gv_report.specs.Ran.{status_after}
 use Rattle.gv_report.specs.Heard as sink
 use Rattle.gv_report.specs.Heard.{Heard, Tells, whole, cut, IsWritten}
 use Rattle.gv_top.specs.declared.check.Verdict.{Verdict}
@@ -26,7 +28,8 @@ use Rattle.gv_top.specs.declared.files.Halt.TheVariants as halt
 use Rattle.gv_top.specs.Check.{Checks, Compares, report_of as check_report}
 use Rattle.gv_top.specs.Explain as explaining
 use Rattle.gv_top.specs.Explain.{Explains, report_of as explain_report}
-use Rattle.gv_top.specs.Commands.{Command, check, explain, Asks, IsNoCommand, Comes, reported}
+use Rattle.gv_top.specs.Replay.{report_of as replay_report}
+use Rattle.gv_top.specs.Commands.{Command, check, explain, replay, Asks, IsNoCommand, Comes, reported}
 use Rattle.gv_top.specs.Files.{Asked, Source, Reads, Ends, Finishes, outside}
 use Rattle.gv_top.specs.Forms.{packages, specs_for, scripts_for, written_specs, histories_of, moves_of}
 use Rattle.gv_top.specs.Promise.{AcceptedPromise, ExplainedPromise}
@@ -34,7 +37,7 @@ use Rattle.gv_top.specs.Run.{Gives, usage, done, Deserves, Answers, IsCutOff}
 use Rattle.gv_top.proofs.CheckExact as checking
 use Rattle.gv_top.proofs.CommandLemmas.{one_command}
 use Rattle.gv_top.proofs.ExplainExact as explanations
-use Rattle.gv_top.proofs.OutcomeLemmas.{check_own, explain_own, never_usage, came, accepted_of, explained_never_accepts, then_read}
+use Rattle.gv_top.proofs.OutcomeLemmas.{check_own, explain_own, replay_own, never_usage, came, accepted_of, explained_never_accepts, replay_never_accepts, then_read}
 
 -- ---- acceptance
 
@@ -78,6 +81,7 @@ module _ (words : List (List ℕ)) (held : List ℕ → Told) (p s t : List ℕ)
 comes_accepting : (words : List (List ℕ)) (held : List ℕ → Told) (c : Command) (r : Report) → r ≡ AcceptedWithoutCrash → Asks words c → Comes (outside held) c r → AcceptedPromise words held
 comes_accepting words held (check p s t) r e asks (o, checks, is) = accepting words held p s t asks o (accepted_of o (sym e ∙ is)) checks
 comes_accepting words held (explain s h m) r e asks (o, explains, is) = absurd (explained_never_accepts o (sym e ∙ is))
+comes_accepting words held (replay p s c) r e asks (o, replays, is) = absurd (replay_never_accepts o (sym e ∙ is))
 
 pub promised : (words : List (List ℕ)) (a : Asked) (r : Report) → r ≡ AcceptedWithoutCrash → Deserves words a r → AcceptedPromise words a.held
 promised words a r e d = go r e d.given
@@ -87,7 +91,7 @@ promised words a r e d = go r e d.given
     go r e (done c asks comes) = comes_accepting words a.held c r e asks comes
 
 -- what comes of words that are this command
-comes_of : (words : List (List ℕ)) (source : Source) (c : Command) (r : Report) → Asks words c → Gives source words r → Comes source c r
+pub comes_of : (words : List (List ℕ)) (source : Source) (c : Command) (r : Report) → Asks words c → Gives source words r → Comes source c r
 comes_of words source c r asks (usage n) = absurd (n c asks)
 comes_of words source c r asks (done d others comes) = subst (λ (x : Command). Comes source x r) (one_command words d c others asks) comes
 
@@ -149,6 +153,7 @@ explained words a heard r status d (whole w f) s h m asks l = go (comes_of words
 memory_free : (source : Source) (c : Command) → Comes source c OutOfMemory
 memory_free source (check p s t) = (Err halt.NoMemory, inl (halt.NoMemory, refl, tt), refl)
 memory_free source (explain s h m) = (Err halt.NoMemory, inl (halt.NoMemory, refl, tt), refl)
+memory_free source (replay p s c) = (Err halt.NoMemory, inl (halt.NoMemory, refl, tt), refl)
 
 memory_given : (source : Source) (words : List (List ℕ)) (r : Report) → r ≢ Usage → Gives source words r → Gives source words OutOfMemory
 memory_given source words r n (usage h) = absurd (n refl)
@@ -167,6 +172,7 @@ usage_of words source r n (done c asks comes) = absurd (n c asks)
 comes_usage : (source : Source) (c : Command) (r : Report) → r ≡ Usage → Comes source c r → ⊥
 comes_usage source (check p s t) r e (o, checks, is) = never_usage check_report check_own o (sym e ∙ is)
 comes_usage source (explain s h m) r e (o, explains, is) = never_usage explain_report explain_own o (sym e ∙ is)
+comes_usage source (replay p s c) r e (o, replays, is) = never_usage replay_report replay_own o (sym e ∙ is)
 
 only_usage : (words : List (List ℕ)) (source : Source) (r : Report) → r ≡ Usage → Gives source words r → IsNoCommand words
 only_usage words source r e (usage h) = h
@@ -174,15 +180,31 @@ only_usage words source r e (done c asks comes) = absurd (comes_usage source c r
 
 -- ---- statuses
 
-at_most_five : (r : Report) → status_of r ≤ 5
-at_most_five AcceptedWithoutCrash = omega arith
-at_most_five (Unjustified place why) = omega arith
-at_most_five Explained = omega arith
-at_most_five (NotExplained at why) = omega arith
-at_most_five Usage = omega arith
-at_most_five (CannotRead name) = omega arith
-at_most_five (Refused name place code) = omega arith
-at_most_five OutOfMemory = omega arith
+ran_known : (undefined : Option (ℕ × Reason)) → (status_after undefined ≤ 5) ⊎ (status_after undefined ≡ 8)
+ran_known None = inl (omega arith)
+ran_known (Some found) = inr refl
+
+status_known : (r : Report) → (status_of r ≤ 5) ⊎ (status_of r ≡ 8)
+status_known AcceptedWithoutCrash = inl (omega arith)
+status_known (Unjustified place why) = inl (omega arith)
+status_known Explained = inl (omega arith)
+status_known (NotExplained at why) = inl (omega arith)
+status_known Usage = inl (omega arith)
+status_known (CannotRead name) = inl (omega arith)
+status_known (Refused name place code) = inl (omega arith)
+status_known OutOfMemory = inl (omega arith)
+status_known (Ran ran) = ran_known ran.undefined
+
+never_six : (r : Report) → status_of r ≡ 6 → ⊥
+never_six r e =
+    elim (status_known r) [
+      | inl few ↦ omega (arith, e, few)
+      | inr eight ↦ omega (arith, e, eight)
+    ]
+
+ran_never_two : (undefined : Option (ℕ × Reason)) → status_after undefined ≡ 2 → ⊥
+ran_never_two None e = omega (arith, e)
+ran_never_two (Some found) e = omega (arith, e)
 
 is_usage : (r : Report) → status_of r ≡ 2 → r ≡ Usage
 is_usage AcceptedWithoutCrash e = absurd (omega (arith, e))
@@ -193,27 +215,32 @@ is_usage Usage e = refl
 is_usage (CannotRead name) e = absurd (omega (arith, e))
 is_usage (Refused name place code) e = absurd (omega (arith, e))
 is_usage OutOfMemory e = absurd (omega (arith, e))
+is_usage (Ran ran) e = absurd (ran_never_two ran.undefined e)
 
 module _ (words : List (List ℕ)) (a : Asked) (h : Heard) (r : Report) (d : Deserves words a r) where
-  pub told : (status : ℕ) → Tells r h status → status ≤ 5 → (q : Report) × (status_of q ≡ status) × Answers words a h q
+  pub told : (status : ℕ) → Tells r h status → status ≢ 6 → (q : Report) × (status_of q ≡ status) × Answers words a h q
   told status (whole w f) l = (r, refl, (d, w))
-  told status (cut o w) l = absurd (omega (arith, l))
+  told status (cut o w) n = absurd (n refl)
 
-  pub calm : (status : ℕ) → Tells r h status → status ≤ 5 → sink.NoneFailed h
+  pub calm : (status : ℕ) → Tells r h status → status ≢ 6 → sink.NoneFailed h
   calm status (whole w f) l = f
-  calm status (cut o w) l = absurd (omega (arith, l))
+  calm status (cut o w) n = absurd (n refl)
 
   pub cut_off : (status : ℕ) → Tells r h status → status ≡ 6 → IsCutOff words a h
-  cut_off status (whole w f) e = absurd (omega (arith, e, at_most_five r))
+  cut_off status (whole w f) e = absurd (never_six r e)
   cut_off status (cut o w) e = record { report = r; deserved = d; fault = o; written = w }
 
   pub always_cut_off : (status : ℕ) → Tells r h status → h.faults_before < h.faults_now → status ≡ 6
   always_cut_off status (whole w f) l = absurd (omega (arith, f, l))
   always_cut_off status (cut o w) l = refl
 
-  pub known : (status : ℕ) → Tells r h status → status ≤ 6
-  known status (whole w f) = omega (arith, at_most_five r)
-  known status (cut o w) = omega arith
+  pub known : (status : ℕ) → Tells r h status → (status ≤ 6) ⊎ (status ≡ 8)
+  known status (whole w f) =
+      elim (status_known r) [
+        | inl few ↦ inl (omega (arith, few))
+        | inr eight ↦ inr eight
+      ]
+  known status (cut o w) = inl (omega arith)
 
   pub usage_only : (status : ℕ) → Tells r h status → status ≡ 2 → IsNoCommand words
   usage_only status (whole w f) e = only_usage words (outside a.held) r (is_usage r e) d.given

@@ -9,18 +9,21 @@ use Rattle.gv_base.specs.declared.answers.Code.{Code}
 use Rattle.gv_base.specs.declared.answers.Place.{Place}
 use Rattle.gv_small.proofs.Cuts.{both}
 use Rattle.gv_report.specs.declared.report.Report.{Report}
-use Rattle.gv_report.specs.declared.report.Report.TheVariants.{Usage, OutOfMemory, CannotRead, Refused, Unjustified, AcceptedWithoutCrash, Explained, NotExplained}
+use Rattle.gv_report.specs.declared.report.Report.TheVariants.{Usage, OutOfMemory, CannotRead, Refused, Unjustified, AcceptedWithoutCrash, Explained, NotExplained, Ran}
 use Rattle.gv_report.specs.Report.{text_of, place_text}
 use Rattle.gv_report.specs.Heard.{Heard, Tells, whole, cut}
 use Rattle.gv_top.specs.Check.{report_of as check_report}
-use Rattle.gv_top.specs.Commands.{Command, check, explain, Asks, Comes, files_of}
+use Rattle.gv_top.specs.Commands.{Command, check, explain, replay, Asks, Comes, files_of}
 use Rattle.gv_top.specs.Explain.{report_of as explain_report}
+use Rattle.gv_top.specs.Replay.{report_of as replay_report}
 use Rattle.gv_top.specs.Files.{Asked, Source, outside}
 use Rattle.gv_top.specs.Promise.{IsOneLine, IsAccepted, ended, written, AcceptedPromise}
 use Rattle.gv_top.specs.Run.{Gives, usage, done, Deserves}
 use Rattle.gv_top.proofs.CheckExact.{check_refused}
 use Rattle.gv_top.proofs.ExplainExact.{explain_refused}
-use Rattle.gv_top.proofs.OutcomeLemmas.{check_own, explain_own, refused_of}
+use Rattle.gv_top.proofs.OutcomeLemmas.{check_own, explain_own, replay_own, refused_of}
+use Rattle.gv_top.proofs.ReplayExact.{replay_refused}
+use Rattle.gv_top.proofs.ReplayLemmas.{ran_text}
 use Rattle.gv_top.proofs.RunLemmas.{promised, ended_accepting}
 
 -- ---- texts
@@ -76,6 +79,8 @@ module _ (words : List (List ℕ)) (lines : (command : Command) → Asks words c
       name_line p s t name (check_refused source p s t name place code o (refused_of check_report check_own name place code o (sym e ∙ is)) checks) (lines (check p s t) asks)
   refused_line source name place code (explain s h m) r e asks (o, explains, is) =
       name_line s h m name (explain_refused source s h m name place code o (refused_of explain_report explain_own name place code o (sym e ∙ is)) explains) (lines (explain s h m) asks)
+  refused_line source name place code (replay p s c) r e asks (o, replays, is) =
+      name_line p s c name (replay_refused source p s c name place code o (refused_of replay_report replay_own name place code o (sym e ∙ is)) replays) (lines (replay p s c) asks)
 
   refusal : (source : Source) (name : List ℕ) (place : Place) (code : Code) (r : Report) (rest : List ℕ) → r ≡ Refused name place code → Gives source words r → text_of (Refused name place code) ≡ text_of AcceptedWithoutCrash ++ rest → ⊥
   refusal source name place code r rest e (usage h) f = absurd cc
@@ -95,6 +100,7 @@ module _ (words : List (List ℕ)) (lines : (command : Command) → Asks words c
   accepted_text a (CannotRead name) rest d e = let h : 99 ≡ 97 = heads (text_of (CannotRead name)) (text_of AcceptedWithoutCrash ++ rest) e in absurd (omega (arith, h))
   accepted_text a (Refused name place code) rest d e = absurd (refusal (outside a.held) name place code (Refused name place code) rest refl d e)
   accepted_text a OutOfMemory rest d e = let h : 111 ≡ 97 = heads (text_of OutOfMemory) (text_of AcceptedWithoutCrash ++ rest) e in absurd (omega (arith, h))
+  accepted_text a (Ran ran) rest d e = absurd (ran_text words (outside a.held) ran rest d e)
 
   -- what was appended is what is there now
   appended_is : (o : Option (List ℕ)) (old text more : List ℕ) (now : Option (List ℕ)) → o ≡ Some old → Appended o text now → now ≡ Some (old ++ more) → text ≡ more

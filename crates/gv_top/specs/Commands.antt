@@ -14,6 +14,8 @@ use Rattle.gv_top.specs.Files.{Source}
 use Rattle.gv_top.specs.Check as check_of
 use Rattle.gv_top.specs.declared.explain.Explanation.{Explanation}
 use Rattle.gv_top.specs.Explain as explain_of
+use Rattle.gv_report.specs.declared.ran.Ran.{Ran}
+use Rattle.gv_top.specs.Replay as replay_of
 
 -- ---- reports
 
@@ -32,10 +34,12 @@ reported report_of (Err halt) = halt_report halt
 pub data Command : Type 0 where
   check : (package_name spec_name script_name : List ℕ) → Command
   explain : (spec_name history_name moves_name : List ℕ) → Command
+  replay : (package_name spec_name schedule_name : List ℕ) → Command
 
 abbrev pub words_of : Command → List (List ℕ)
 words_of (check package_name spec_name script_name) = codes "check" ∷ package_name ∷ spec_name ∷ script_name ∷ []
 words_of (explain spec_name history_name moves_name) = codes "explain" ∷ spec_name ∷ history_name ∷ moves_name ∷ []
+words_of (replay package_name spec_name schedule_name) = codes "replay" ∷ package_name ∷ spec_name ∷ schedule_name ∷ []
 
 -- the same for a word and three more
 abbrev pub AreWordsOf : Command → List ℕ → List ℕ → List ℕ → List ℕ → Type 0
@@ -45,6 +49,7 @@ AreWordsOf command word first second third = words_of command ≡ word ∷ first
 abbrev pub files_of : Command → List (List ℕ)
 files_of (check package_name spec_name script_name) = package_name ∷ spec_name ∷ script_name ∷ []
 files_of (explain spec_name history_name moves_name) = spec_name ∷ history_name ∷ moves_name ∷ []
+files_of (replay package_name spec_name schedule_name) = package_name ∷ spec_name ∷ schedule_name ∷ []
 
 -- the reports that it may give over what the files give
 abbrev pub Comes : Source → Command → Report → Type 0
@@ -52,6 +57,8 @@ Comes source (check package_name spec_name script_name) r =
     (outcome : Result Verdict Halt) × check_of.Checks source package_name spec_name script_name outcome × (r ≡ reported check_of.report_of outcome)
 Comes source (explain spec_name history_name moves_name) r =
     (outcome : Result Explanation Halt) × explain_of.Explains source spec_name history_name moves_name outcome × (r ≡ reported explain_of.report_of outcome)
+Comes source (replay package_name spec_name schedule_name) r =
+    (outcome : Result Ran Halt) × replay_of.Replays source package_name spec_name schedule_name outcome × (r ≡ reported replay_of.report_of outcome)
 
 -- ---- words
 
@@ -77,3 +84,4 @@ IsNoCommand words = (command : Command) → Asks words command → ⊥
 abbrev pub named : held.Command → Command
 named (held_command.Check names) = check names.«package».now names.spec.now names.script.now
 named (held_command.Explain names) = explain names.spec.now names.history.now names.moves.now
+named (held_command.Replay names) = replay names.«package».now names.spec.now names.schedule.now

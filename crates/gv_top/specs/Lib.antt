@@ -8,6 +8,8 @@ pub mod Laws
 pub mod Packages
 pub mod Promise
 pub mod Reading
+pub mod Replay
+pub mod ReplayForms
 pub mod Run
 pub mod SmallScript
 pub mod Specifications

@@ -1,5 +1,5 @@
 -- What `run` promises of the files, by the command that its words are.
-use Rattle.std.specs.Prelude.{◌≡◌, ◌↔◌, ◌≤◌, ℕ, true, not, ◌==◌, List, ◌++◌, Some, Err, All, Vec}
+use Rattle.std.specs.Prelude.{◌≡◌, ◌↔◌, ◌≤◌, ◌⊎◌, ℕ, true, not, ◌==◌, List, ◌++◌, Some, None, Err, All, Vec}
 use Rattle.std.specs.List.{list_all}
 use Rattle.std.specs.declared.alloc.Global.{Global}
 use Rattle.gv_base.specs.Outside.{Told}
@@ -16,12 +16,18 @@ use Rattle.gv_smallspec.specs.SmallSpec.{IsSmallOf}
 use Rattle.gv_smallprogram.specs.Program.{program_of}
 use Rattle.gv_history.specs.declared.fault.WalkCause.{WalkCause}
 use Rattle.gv_history.specs.Fault.{cause_of}
-use Rattle.gv_report.specs.declared.report.Report.TheVariants.{AcceptedWithoutCrash, NotExplained}
+use Rattle.gv_report.specs.declared.report.Report.TheVariants.{AcceptedWithoutCrash, NotExplained, Ran}
 use Rattle.gv_report.specs.Report.{text_of}
 use Rattle.gv_report.specs.Heard.{Heard, IsWritten}
 use Rattle.gv_top.specs.Files.{Reads, outside}
 use Rattle.gv_top.specs.Forms.{packages, written_specs, histories_of, moves_of}
-use Rattle.gv_top.specs.Commands.{check, explain, Asks, files_of}
+use Rattle.gv_top.specs.Commands.{check, explain, replay, Asks, files_of}
+use Rattle.gv_replay.specs.declared.schedule.Schedule.{Schedule}
+use Rattle.gv_played.specs.declared.replaying.Ran as played
+use Rattle.gv_played.specs.Played.{IsRan}
+use Rattle.gv_lines.specs.Lines.{entry_lines}
+use Rattle.gv_interfaces.specs.Interfaces.{SameOperations}
+use Rattle.gv_top.specs.ReplayForms.{schedules_of}
 
 -- no byte of the name is a newline
 abbrev pub IsOneLine : List ℕ → Type 0
@@ -75,8 +81,30 @@ pub record ExplainedPromise (held : List ℕ → Told) (heard : Heard) (status :
   pub fault : status ≡ 1 → (at : ℕ) × (cause : WalkCause) × IsWritten heard (text_of (NotExplained at cause))
       × (walked atomic history.items moves.items ≡ Err (record { index = at; cause = cause_of cause }))
 
+-- THE PROMISE of `replay` on files of these names, where it ends with status 0 or 8.
+pub record ReplayedPromise (held : List ℕ → Told) (heard : Heard) (status : ℕ) (package_name spec_name schedule_name : List ℕ) : Type 0 where
+  -- What the files held, where that is told, is a package of the grammar that spells this one of the small form, a specification with
+  -- the same operations, and a schedule of its calls.
+  pub program : Small
+  pub is_package : Reads (outside held) packages package_name program
+  pub atomic : Spec
+  pub is_spec : Reads (outside held) written_specs spec_name atomic
+  pub operations : SameOperations program atomic
+  pub schedule : Schedule
+  pub is_schedule : Reads (outside held) (schedules_of atomic) schedule_name schedule
+  -- This is the run of the schedule's events, one after another, on the machine of the package's program in the setting of the
+  -- specification: its history, and the event that was undefined, if one was, by its number from 1, and why. No event would leave too
+  -- many live cells.
+  pub run : played.Ran
+  pub is_run : IsRan (program_of program) atomic schedule.events run
+  -- The history was written, an entry a line, and behind it `end` with status 0, or the undefined event with status 8.
+  pub written : IsWritten heard (text_of (Ran (record { lines = entry_lines atomic run.history; undefined = run.undefined })))
+  pub ended : status ≡ 0 ↔ (run.undefined ≡ None)
+
 -- All of it: a field for each command.
 pub record Promise (words : List (List ℕ)) (held : List ℕ → Told) (heard : Heard) (status : ℕ) : Type 0 where
   pub accepted : IsAccepted words heard status → AcceptedPromise words held
   pub explained : (spec_name history_name moves_name : List ℕ) → Asks words (explain spec_name history_name moves_name) → status ≤ 1
       → ExplainedPromise held heard status spec_name history_name moves_name
+  pub replayed : (package_name spec_name schedule_name : List ℕ) → Asks words (replay package_name spec_name schedule_name) → (status ≡ 0) ⊎ (status ≡ 8)
+      → ReplayedPromise held heard status package_name spec_name schedule_name

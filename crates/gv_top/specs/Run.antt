@@ -57,9 +57,9 @@ pub record IsAnswered (words : List (List ℕ)) (a : Asked) (h : Heard) (status 
   -- Words that are no command are answered by 2, and never by want of memory; 2 comes for no other words.
   pub usage : IsNoCommand words → (status ≡ 2) ⊎ (status ≡ 6)
   pub usage_only : status ≡ 2 → IsNoCommand words
-  -- A status below 6 comes with a report of that status, which was deserved and written whole, and no put failed.
-  pub told : status ≤ 5 → (r : Report) × (status_of r ≡ status) × Answers words a h r
-  pub calm : status ≤ 5 → sink.NoneFailed h
+  -- A status other than 6 comes with a report of that status, which was deserved and written whole, and no put failed.
+  pub told : status ≢ 6 → (r : Report) × (status_of r ≡ status) × Answers words a h r
+  pub calm : status ≢ 6 → sink.NoneFailed h
   -- 6 comes only where a put failed, and then always; a prefix of such a report was written.
   pub cut_off : status ≡ 6 → IsCutOff words a h
   pub always_cut_off : h.faults_before < h.faults_now → status ≡ 6
@@ -68,4 +68,4 @@ pub record IsAnswered (words : List (List ℕ)) (a : Asked) (h : Heard) (status 
   pub exact : (r : Report) → Defines words a.held r → r ≢ OutOfMemory → OnlyAbsentFailed a → NoPutFailed h →
       IsTold h r status ⊎ IsTold h OutOfMemory status
   -- There is no other status.
-  pub known : status ≤ 6
+  pub known : (status ≤ 6) ⊎ (status ≡ 8)

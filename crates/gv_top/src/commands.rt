@@ -6,13 +6,15 @@ ghost use Rattle.gv_top.specs.Commands as table;
 ghost use Rattle.gv_top.specs.Commands.{Command as AnyCommand, AreWordsOf};
 ghost use Rattle.gv_top.specs.Explain.{report_of as explained_report};
 ghost use Rattle.gv_top.specs.Files.{asked, outside, IsBlamed};
+ghost use Rattle.gv_top.specs.Replay.{report_of as replayed_report};
 ghost use Rattle.gv_top.specs.Run.{IsBlamedIn};
 
 use crate::check::{CheckWords, Verdict, check};
 use crate::explain::{ExplainWords, Explanation, explain};
 use crate::files::Halt;
+use crate::replay::{ReplayWords, replay};
 use gv_base::Files;
-use gv_report::Report;
+use gv_report::{Ran, Report};
 use std::alloc::Global;
 
 /// A command with its words. This project's own.
@@ -20,6 +22,7 @@ use std::alloc::Global;
 pub enum Command<'a> {
     Check(CheckWords<'a>),
     Explain(ExplainWords<'a>),
+    Replay(ReplayWords<'a>),
 }
 
 // Whether the last word is `json`.
@@ -54,6 +57,13 @@ fn of_three<'a>(
             spec: first,
             history: second,
             moves: third,
+        }));
+    }
+    if word == "replay" {
+        return Some(Command::Replay(ReplayWords {
+            package: first,
+            spec: second,
+            schedule: third,
         }));
     }
     None
@@ -113,6 +123,16 @@ fn explain_report(outcome: Result<Explanation, Halt>) -> Report
     }
 }
 
+// The report of what came of a replay.
+fn replay_report(outcome: Result<Ran, Halt>) -> Report
+    ensures { result ≡ table.reported replayed_report outcome }
+{
+    match outcome {
+        Ok(ran) => Report::Ran(ran),
+        Err(halt) => halt.report(),
+    }
+}
+
 /// The report of what comes of a command.
 pub fn perform<F: Files>(alloc: Global, command: &Command, files: &mut F) -> Report
     ensures comes { table.Comes (outside (F.held files.old)) (table.named command.now) result }
@@ -122,5 +142,6 @@ pub fn perform<F: Files>(alloc: Global, command: &Command, files: &mut F) -> Rep
     match command {
         Command::Check(names) => check_report(check(alloc, names, files)),
         Command::Explain(names) => explain_report(explain(alloc, names, files)),
+        Command::Replay(names) => replay_report(replay(alloc, names, files)),
     }
 }

@@ -9,6 +9,8 @@ mod files;
 mod forms;
 mod laws;
 mod program;
+mod replay;
+mod replay_forms;
 mod small_script;
 
 pub use laws::{one_package, one_script, one_specification};

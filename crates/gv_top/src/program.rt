@@ -23,13 +23,13 @@ fn deserved<F: Files>(alloc: Global, words: &Vec<String>, files: &mut F) -> Repo
     }
 }
 
-/// Does all that the program does, and gives the status that it ends with: 0 accepted or explained, 1 unjustified
-/// or not explained, 2 usage, 3 a file that can't be fetched, 4 a text that is refused, 5 want of memory, 6 a put
-/// that failed. The report is made whole before the first put, and is put in pieces of at most 65,536 bytes.
+/// Does all that the program does, and gives the status that it ends with: 0 accepted, explained or replayed to the
+/// end, 1 unjustified or not explained, 2 usage, 3 a file that can't be fetched, 4 a text that is refused, 5 want of
+/// memory, 6 a put that failed, 8 replayed up to an undefined event. The report is made whole before the first put, and is put in pieces of at most 65,536 bytes.
 /// This project's own.
 pub fn run<F: Files, K: Sink>(alloc: Global, words: &Vec<String>, files: &mut F, out: &mut K) -> u8
     // Where it accepts, every run of the package without a crash is explained by the specification; where it explains, the
-    // moves explain the history, and else they don't.
+    // moves explain the history, and else they don't; where it replays, what it writes is the run of the schedule.
     ensures promise { Promise (texts words.now.items) (F.held files.old) (heard K.written K.faults out.old out.new) result }
 
     // Each status comes with the report that is deserved, and wherever it must.

@@ -5,3 +5,6 @@ returns-in-Check-clause-comes g c = rw c.in-Check.is (c.check.result, c.check.en
 
 pub returns-in-Explain-clause-comes : goal.returns-in-Explain-clause-comes
 returns-in-Explain-clause-comes g c = rw c.in-Explain.is (c.explain.result, c.explain.ensures.outcome, c.explain_report.ensures)
+
+pub returns-in-Replay-clause-comes : goal.returns-in-Replay-clause-comes
+returns-in-Replay-clause-comes g c = rw c.in-Replay.is (c.replay.result, c.replay.ensures.outcome, c.replay_report.ensures)

@@ -1,7 +1,8 @@
 use Rattle.gv_report.specs.Heard.{Heard, heard}
 use Rattle.gv_top.specs.Commands.{texts}
-use Rattle.gv_top.specs.Files.{Asked, asked}
+use Rattle.gv_top.specs.Files.{Asked, asked, outside}
 use Rattle.gv_top.proofs.ExactLemmas.{exact}
+use Rattle.gv_top.proofs.ReplayLemmas.{replayed}
 use Rattle.gv_top.proofs.RunLemmas as run
 use Rattle.gv_top.proofs.WrittenLemmas.{accepted}
 use Rattle.gv_top.proofs.program.run.Goals as goal
@@ -17,6 +18,8 @@ returns-clause-promise g c =
     record {
       accepted = λ given. accepted words a h r status d c.tell-2.ensures given;
       explained = λ s x m asks l. run.explained words a h r status d c.tell-2.ensures s x m asks l;
+      replayed = λ p s x asks ends.
+          replayed words a h r status d c.tell-2.ensures (λ command others. run.comes_of words (outside a.held) command r others d.given) p s x asks ends;
     }
 
 pub returns-clause-answered : goal.returns-clause-answered
