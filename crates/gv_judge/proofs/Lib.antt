@@ -6,3 +6,13 @@ pub mod Choosing
 pub mod Bound
 pub mod Explained
 pub mod AnswerLaws
+pub mod Later
+pub mod LastRaised
+pub mod CallLists
+pub mod Standing
+pub mod Tree
+pub mod Adding
+pub mod Adds
+pub mod Paths
+pub mod Visits
+pub mod MovesOf

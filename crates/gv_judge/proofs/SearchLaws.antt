@@ -10,7 +10,8 @@ use Rattle.gv_spec.proofs.WalkLaws.{Walked, by_call, by_act, by_answer, by_crash
 use Rattle.gv_judge.specs.Search.{Choosing, count_up, call_bound, acts_of, acts_under, showing, additions, beginning, nodes_from, nodes, IsFull}
 use Rattle.gv_judge.specs.SearchLaws.{IsIn, IsChoosing, IsWritten, AreWritten, IsNode, NodesAreWalks, FullNodesExplain}
 use Rattle.gv_judge.proofs.Members.{in_left, in_right, in_either, map_in, in_map, flat_in, in_flat, counted}
-use Rattle.gv_judge.proofs.Waiting.{waiting, room, IsBound, IsNext, falls, stays_bound}
+use Rattle.gv_judge.specs.Room.{waiting, room, IsBound}
+use Rattle.gv_judge.proofs.Waiting.{IsNext, falls, stays_bound}
 
 pub entries_cons : {V : Type 0} (m : Move V) (ms : List (Move V)) → entries_of (m ∷ ms) ≡ entries_of (m ∷ []) ++ entries_of ms
 entries_cons (move.Act n choices) ms = refl

@@ -9,22 +9,7 @@ use Rattle.gv_spec.specs.Walks.{Standing, NeverCalled, Called, Acted, Answered, 
 use Rattle.gv_spec.proofs.Moves.{entered_other}
 use Rattle.gv_spec.proofs.WalkLaws.{Walked, by_call, by_act, by_answer, by_crash, by_boot, by_plain_boot, entered_cases, undropped_called}
 use Rattle.gv_judge.specs.Search.{call_bound}
-
-abbrev pub waits : {V : Type 0} → Standing V → ℕ
-waits (Called op args) = 1
-waits NeverCalled = 0
-waits (Acted reply) = 0
-waits Answered = 0
-waits Dropped = 0
-
--- how many of the calls below a number have not acted
-abbrev pub waiting : {V : Type 0} → (ℕ → Standing V) → ℕ → ℕ
-waiting table zero = 0
-waiting table (suc b) = waits (table b) + waiting table b
-
--- how many moves may still be added at most
-abbrev pub room : {F V : Type 0} → ℕ → WalkState F V → List (Entry V) → ℕ
-room bound w left = 2 * length left + waiting w.table bound
+use Rattle.gv_judge.specs.Room.{waits, waiting, room, IsBound}
 
 module _ {V : Type 0} (t : ℕ → Standing V) (k : ℕ) (s : Standing V) where
   -- the standing of a call doesn't count for those below it
@@ -69,11 +54,6 @@ none_waits t (suc b) = (let one = none (t b) in let rest = none_waits t b in ome
     none (Acted reply) = refl
     none Answered = refl
     none Dropped = refl
-
--- the calls in the table, and those that the history still has, are below the bound
-pub record IsBound {F V : Type 0} (bound : ℕ) (w : WalkState F V) (left : List (Entry V)) : Type 0 where
-  pub table : (n op : ℕ) (args : List V) → w.table n ≡ Called op args → n < bound
-  pub history : call_bound left ≤ bound
 
 -- what a move shows is the next entry of what is left, if it shows one
 abbrev pub IsNext : {V : Type 0} → List (Entry V) → Move V → Type 0

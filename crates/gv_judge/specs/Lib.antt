@@ -4,3 +4,10 @@ pub mod SearchExamples
 pub mod Choosing
 pub mod Bound
 pub mod Explained
+pub mod Later
+pub mod Calls
+pub mod Room
+pub mod Node
+pub mod Turn
+pub mod Open
+pub mod Judged

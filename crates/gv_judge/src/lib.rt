@@ -1,6 +1,14 @@
 //! The search for an explanation of one recorded history.
 #![tactic(auto)]
 
+mod binding;
+mod calls;
+mod choices;
+mod judging;
 mod laws;
+mod node;
+mod search;
+mod turn;
 
+pub use judging::{Judged, judge};
 pub use laws::{answers_exclude, few_nodes, search_order, worked_searches, written_search_order};

@@ -1,0 +1,26 @@
+use Rattle.std.proofs.Common.{◌≡◌, ◌++◌, ◌∷◌, [], ℕ, List, Option, Some, None, refl, sym, ap, ◌∙◌}
+use Rattle.std.specs.Prelude.{option_map}
+use Rattle.gv_spec.specs.Atomic.{atomic_of}
+use Rattle.gv_judge.specs.declared.calls.Kept.{Kept}
+use Rattle.gv_judge.specs.declared.node.Node.{Node}
+use Rattle.gv_judge.specs.Calls.{taken_out}
+use Rattle.gv_judge.proofs.Standing.{act_refused, act_taken}
+use Rattle.gv_judge.proofs.node.Node.act.Goals as goal
+
+pub returns-in-None : goal.returns-in-None
+returns-in-None c = λ waits before w stands.
+    let self = c.args.self.now in
+    let call = c.args.call in
+    act_refused c.args.spec.now before self self w stands call c.args.choices.now waits
+    (ap (λ vs. (atomic_of c.args.spec.now).applied call.op vs c.args.choices.now self.fields.values) (sym c.as_slice.ensures)
+    ∙ c.in_ok-apply.ensures.atomic ∙ ap (option_map (λ r. (r.0.values, r.1))) c.in-None.is)
+
+pub returns-in_ok-taken_out-in-Some : goal.returns-in_ok-taken_out-in-Some
+returns-in_ok-taken_out-in-Some c = λ waits before w stands.
+    let self = c.args.self.now in
+    let call = c.args.call in
+    act_taken c.args.spec.now before self _ w stands call c.args.choices.now c.in-Some.reply waits
+    (ap (λ vs. (atomic_of c.args.spec.now).applied call.op vs c.args.choices.now self.fields.values) (sym c.as_slice.ensures)
+    ∙ c.in_ok-apply.ensures.atomic ∙ ap (option_map (λ r. (r.0.values, r.1))) c.in-Some.is)
+    (c.in_ok-taken_out-in-Some.ensures ∙ ap (taken_out call.number) c.as_slice-in-Some-2.ensures.value)
+    (c.in_ok-push-in-Some.ensures.items ∙ ap (λ l. l ++ (record { number = call.number; reply = c.in-Some.reply }) ∷ []) (c.in_ok-acted-in-Some.ensures ∙ c.as_slice-in-Some.ensures.value)) refl
