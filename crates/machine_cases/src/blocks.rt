@@ -93,8 +93,9 @@ impl Blocks {
         let Some(open) = self.open.pop() else {
             bail!("no condition before");
         };
-        match open.opening {
-            Opening::Then(e) => self.begin(alloc, Opening::Otherwise(e, open.commands)),
+        let Open { opening, commands } = open;
+        match opening {
+            Opening::Then(e) => self.begin(alloc, Opening::Otherwise(e, commands)),
             _ => bail!("no condition before"),
         }
     }
@@ -118,8 +119,9 @@ impl Blocks {
         let Some(open) = self.open.pop() else {
             return Ok(None);
         };
-        match open.opening {
-            Opening::Body => Ok(Some(open.commands)),
+        let Open { opening, commands } = open;
+        match opening {
+            Opening::Body => Ok(Some(commands)),
             _ => bail!("a block without its end"),
         }
     }

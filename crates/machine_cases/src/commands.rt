@@ -14,7 +14,7 @@ use std::alloc::Global;
 pub(crate) const NOWHERE: Place = Place { line: 0, column: 0 };
 
 // What stands before the operands, beside the targets.
-#[derive(Clone, Copy, Debug)]
+#[derive(Clone, Copy)]
 enum Head {
     Nothing,
     Struct(u32),
@@ -24,7 +24,7 @@ enum Head {
 }
 
 // The parts of a line.
-#[derive(Clone, Copy, Debug)]
+#[derive(Clone, Copy)]
 struct Parts<'a> {
     word: &'a str,
     targets: &'a str,

@@ -5,7 +5,7 @@ use gv_base::Name;
 use gv_lang::{Local, Proc, Struct};
 
 /// The structs of a program, and its procedures up to the one that is being read.
-#[derive(Clone, Copy, Debug)]
+#[derive(Clone, Copy)]
 pub(crate) struct Names<'a> {
     pub structs: &'a [Struct],
     pub procs: &'a [Proc],

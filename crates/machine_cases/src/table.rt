@@ -12,7 +12,7 @@ use gv_specs::{Spec, read_spec};
 use std::alloc::Global;
 
 // What is asked of a schedule.
-#[derive(Clone, Copy, Debug)]
+#[derive(Clone, Copy)]
 enum Form {
     // its history, and how it ends
     Run,
@@ -21,7 +21,7 @@ enum Form {
 }
 
 // Which shape a program is to have.
-#[derive(Clone, Copy, Debug, PartialEq, Eq)]
+#[derive(Clone, Copy)]
 enum Shape {
     Good,
     Other,
@@ -79,16 +79,18 @@ fn no_program(alloc: Global) -> Program {
     }
 }
 
+fn has_shape(program: &Program, shape: Shape) -> bool {
+    match shape {
+        Shape::Good => well_shaped(program),
+        Shape::Other => !well_shaped(program),
+    }
+}
+
 // The program that has been read, which must have the shape that its first line says.
 fn finished(shape: Shape, reading: Reading) -> Result<Program> {
     let program = reading.finish()?;
-    let found = if well_shaped(&program) {
-        Shape::Good
-    } else {
-        Shape::Other
-    };
-    if found != shape {
-        bail!("the shape is not as said");
+    if !has_shape(&program, shape) {
+        bail!("the program's shape is not as said");
     }
     Ok(program)
 }

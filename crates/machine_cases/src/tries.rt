@@ -2,7 +2,7 @@
 
 ghost use Rattle.std.specs.Prelude.{◌≡◌, ◌+◌, ◌≤◌, ◌^◌, All, length};
 ghost use Rattle.gv_spec.specs.History.{IsEventOf};
-ghost use Rattle.gv_machine.specs.Machines.{program_in, spec_in, state_in};
+ghost use Rattle.gv_machine.specs.Machines.{spec_in, state_in};
 
 use crate::tally::Tally;
 use anyhow::{Result, bail};
@@ -17,7 +17,6 @@ fn tried(alloc: Global, machine: &mut Machine<'_>, e: &Event, count: u32) -> Res
     requires of_spec { IsEventOf (spec_in machine.old) e.now }
     requires few { length (state_in machine.old).threads + count ≤ 2 ^ 32 }
     ensures threads { length (state_in machine.new).threads ≤ length (state_in machine.old).threads + count }
-    ensures program { program_in machine.new ≡ program_in machine.old }
     ensures spec { spec_in machine.new ≡ spec_in machine.old }
 {
     let mut tally = Tally::new(alloc);
