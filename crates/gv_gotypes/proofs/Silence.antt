@@ -4,13 +4,18 @@ use Rattle.std.specs.Prelude.{if◌then◌else◌, option_and_then}
 use Rattle.gv_base.specs.declared.answers.Code.{Code}
 use Rattle.gv_gosyntax.specs.declared.lexeme.Lexeme.{Lexeme}
 use Rattle.gv_gotypes.specs.Trees.{Expr, Constant, Name, Paren, Convert, Select, Index, Slice, Unary, Binary, Bound, left_out, bound}
-use Rattle.gv_gotypes.specs.Types.{Pointer, Class, Run, Finding, Fault, Outer, Assigned}
-use Rattle.gv_gotypes.specs.Operators.{is_fixed, unary}
+use Rattle.gv_operands.specs.declared.types.GoType.TheVariants.{Pointer}
+use Rattle.gv_operands.specs.declared.types.Class.{Class}
+use Rattle.gv_operands.specs.declared.types.Class.TheVariants.{Run}
+use Rattle.gv_operands.specs.declared.part.Spot.{Spot}
+use Rattle.gv_operands.specs.declared.part.Part.{Part}
+use Rattle.gv_gotypes.specs.Types.{Finding, Fault, Outer, Assigned}
+use Rattle.gv_operands.specs.Operators.{is_fixed, unary}
 use Rattle.gv_gotypes.specs.Scopes.{Env, Entity, Imported, StructOf, ConstantOf, ProcedureOf, Variable, Found, Package, Library, found, name_in}
 use Rattle.gv_gotypes.specs.Members.{Member, ValueOf, FieldOf, Called, TypeName, library_member, base_member}
-use Rattle.gv_gotypes.specs.Places.{Outcome, Part, start_of, refusals, is_nothing, some_is_nothing, run_form, whole_form, form, behind}
+use Rattle.gv_gotypes.specs.Places.{Outcome, spot_of, part_of, refusals, is_nothing, some_is_nothing, run_form, whole_form, form, behind}
 use Rattle.gv_gotypes.specs.Told.{IsFound}
-use Rattle.gv_gotypes.specs.Expressions.{operand, bound_parts, bound_findings, used_outside, entity_outcome, found_outcome, member_outcome, class_member, unless_refused, select_outcome, select_from, library_of, convert_outcome, index_outcome, binary_outcome, sliced}
+use Rattle.gv_gotypes.specs.Expressions.{operand, bound_parts, bound_findings, used_outside, entity_outcome, found_outcome, member_outcome, class_member, unless_refused, select_outcome, select_from, library_of, convert_outcome, index_outcome, binary_outcome, unary_outcome, sliced}
 use Rattle.gv_gotypes.specs.Laws.{FaultsSilence}
 
 abbrev NoFault : List Finding → Type 0
@@ -99,10 +104,10 @@ quiet_unless : (fs : List Finding) (o : Outcome) → Quiet o → Quiet (unless_r
 quiet_unless [] o q = q
 quiet_unless (f ∷ fs) o q = inl refl
 
-quiet_select : (env : Env) (e : Expr) (t : Lexeme) (c : Option Class) → Quiet (select_outcome env e t c)
+quiet_select : (env : Env) (e : Spot) (t : Lexeme) (c : Option Class) → Quiet (select_outcome env e t c)
 quiet_select env e t None = inl refl
 quiet_select env e t (Some c) =
-    quiet_unless (refusals (record { expr = e; class = Some c } ∷ [])) (class_member env c t (start_of e)) (quiet_class_member env c t (start_of e))
+    quiet_unless (refusals (record { spot = e; class = Some c } ∷ [])) (class_member env c t e.start) (quiet_class_member env c t e.start)
 
 -- ---- forms of one part and of two
 
@@ -117,39 +122,35 @@ of_two f o p left right q g h = ⊎_elim
     (λ m. ⊎_elim (λ (e : p.class ≡ None). inl (ap (λ d. (f o.class d).class) e ∙ right o.class))
     (λ n. quiet_behind (o.findings ++ p.findings) (f o.class p.class) (apart o.findings p.findings m n) (q o.class p.class)) h) g
 
-quiet_convert : (w : Lexeme) (e : Expr) (c : Option Class) → Quiet (convert_outcome w e c)
+quiet_convert : (w : Lexeme) (e : Spot) (c : Option Class) → Quiet (convert_outcome w e c)
 quiet_convert w e None = inl refl
 quiet_convert w e (Some c) = quiet_form [] _ _ _
 
-quiet_index : (e i : Expr) (c d : Option Class) → Quiet (index_outcome e i c d)
+quiet_index : (e i : Spot) (c d : Option Class) → Quiet (index_outcome e i c d)
 quiet_index e i None d = inl refl
 quiet_index e i (Some c) None = inl refl
 quiet_index e i (Some c) (Some d) = quiet_form [] _ _ _
 
-index_right : (e i : Expr) (c : Option Class) → (index_outcome e i c None).class ≡ None
+index_right : (e i : Spot) (c : Option Class) → (index_outcome e i c None).class ≡ None
 index_right e i None = refl
 index_right e i (Some c) = refl
 
-quiet_binary : (t : Lexeme) (a b : Expr) (c d : Option Class) → Quiet (binary_outcome t a b c d)
+quiet_binary : (t : Lexeme) (a b : Spot) (c d : Option Class) → Quiet (binary_outcome t a b c d)
 quiet_binary t a b None d = inl refl
 quiet_binary t a b (Some c) None = inl refl
 quiet_binary t a b (Some c) (Some d) = quiet_form [] _ _ _
 
-binary_right : (t : Lexeme) (a b : Expr) (c : Option Class) → (binary_outcome t a b c None).class ≡ None
+binary_right : (t : Lexeme) (a b : Spot) (c : Option Class) → (binary_outcome t a b c None).class ≡ None
 binary_right t a b None = refl
 binary_right t a b (Some c) = refl
 
-quiet_from : (env : Env) (e : Expr) (t : Lexeme) (l : Option Library) (o : Outcome) → Quiet o → Quiet (select_from env e t l o)
-quiet_from env e t (Some l) o q = quiet_member (library_member l (name_in env.source t)) t.start (start_of e)
+quiet_from : (env : Env) (e : Spot) (t : Lexeme) (l : Option Library) (o : Outcome) → Quiet o → Quiet (select_from env e t l o)
+quiet_from env e t (Some l) o q = quiet_member (library_member l (name_in env.source t)) t.start e.start
 quiet_from env e t None o q = of_one (select_outcome env e t) o refl (quiet_select env e t) q
 
--- `!e` and `^e` by what e is
-abbrev unary_outcome : Lexeme → Expr → Option Class → Outcome
-unary_outcome t e c = form (record { expr = e; class = c } ∷ []) (refusals (record { expr = e; class = c } ∷ [])) (option_and_then (unary t.class) c) t.start
-
-quiet_unary : (t : Lexeme) (e : Expr) (c : Option Class) → Quiet (unary_outcome t e c)
+quiet_unary : (t : Lexeme) (e : Spot) (c : Option Class) → Quiet (unary_outcome t e c)
 quiet_unary t e c =
-    quiet_form (record { expr = e; class = c } ∷ []) (refusals (record { expr = e; class = c } ∷ [])) (option_and_then (unary t.class) c) t.start
+    quiet_form (record { spot = e; class = c } ∷ []) (refusals (record { spot = e; class = c } ∷ [])) (option_and_then (unary t.class) c) t.start
 
 -- ---- parts that are nothing
 
@@ -175,42 +176,42 @@ abbrev QuietBound : Env → Bound → Type 0
 QuietBound env b = (some_is_nothing (bound_parts env b) ≡ true) ⊎ NoFault (bound_findings env b)
 
 -- `e[a:b]` by what its parts are
-quiet_slice : (e : Expr) (o : Outcome) (ps qs : List Part) (fs gs : List Finding) → Quiet o → (some_is_nothing ps ≡ true) ⊎ NoFault fs → (some_is_nothing qs ≡ true) ⊎ NoFault gs
+quiet_slice : (e : Spot) (o : Outcome) (ps qs : List Part) (fs gs : List Finding) → Quiet o → (some_is_nothing ps ≡ true) ⊎ NoFault fs → (some_is_nothing qs ≡ true) ⊎ NoFault gs
     → Quiet (behind (o.findings ++ (fs ++ gs))
-    (form (record { expr = e; class = o.class } ∷ (ps ++ qs)) (refusals (record { expr = e; class = o.class } ∷ (ps ++ qs))) (sliced o.class (ps ++ qs)) (start_of e)))
+    (form (record { spot = e; class = o.class } ∷ (ps ++ qs)) (refusals (record { spot = e; class = o.class } ∷ (ps ++ qs))) (sliced o.class (ps ++ qs)) e.start))
 quiet_slice e o ps qs fs gs h p q =
-    let all : List Part = record { expr = e; class = o.class } ∷ (ps ++ qs) in
-    let gone : some_is_nothing all ≡ true → Quiet (behind (o.findings ++ (fs ++ gs)) (form all (refusals all) (sliced o.class (ps ++ qs)) (start_of e)))
-    = λ n. inl (nothing_form all (refusals all) (sliced o.class (ps ++ qs)) (start_of e) n) in
+    let all : List Part = record { spot = e; class = o.class } ∷ (ps ++ qs) in
+    let gone : some_is_nothing all ≡ true → Quiet (behind (o.findings ++ (fs ++ gs)) (form all (refusals all) (sliced o.class (ps ++ qs)) e.start))
+    = λ n. inl (nothing_form all (refusals all) (sliced o.class (ps ++ qs)) e.start n) in
     ⊎_elim
-    (λ (n : o.class ≡ None). gone (ap (λ c. some_is_nothing (record { expr = e; class = c } ∷ (ps ++ qs))) n))
+    (λ (n : o.class ≡ None). gone (ap (λ c. some_is_nothing (record { spot = e; class = c } ∷ (ps ++ qs))) n))
     (λ k. ⊎_elim
-    (λ n. gone (or_else (is_nothing (record { expr = e; class = o.class })) (some_is_nothing (ps ++ qs)) (nothing_left ps qs n)))
+    (λ n. gone (or_else (is_nothing (record { spot = e; class = o.class })) (some_is_nothing (ps ++ qs)) (nothing_left ps qs n)))
     (λ l. ⊎_elim
-    (λ n. gone (or_else (is_nothing (record { expr = e; class = o.class })) (some_is_nothing (ps ++ qs)) (nothing_right ps qs n)))
-    (λ m. quiet_behind (o.findings ++ (fs ++ gs)) (form all (refusals all) (sliced o.class (ps ++ qs)) (start_of e))
-    (apart o.findings (fs ++ gs) k (apart fs gs l m)) (quiet_form all (refusals all) (sliced o.class (ps ++ qs)) (start_of e))) q) p) h
+    (λ n. gone (or_else (is_nothing (record { spot = e; class = o.class })) (some_is_nothing (ps ++ qs)) (nothing_right ps qs n)))
+    (λ m. quiet_behind (o.findings ++ (fs ++ gs)) (form all (refusals all) (sliced o.class (ps ++ qs)) e.start)
+    (apart o.findings (fs ++ gs) k (apart fs gs l m)) (quiet_form all (refusals all) (sliced o.class (ps ++ qs)) e.start)) q) p) h
 
 mutual
   quiet : (env : Env) (e : Expr) → Quiet (operand env e)
   quiet env (Constant t) = inr empty
   quiet env (Name t) = quiet_found env t (found env (name_in env.source t))
   quiet env (Paren t e) = quiet env e
-  quiet env (Convert w e) = of_one (convert_outcome w e) (operand env e) refl (quiet_convert w e) (quiet env e)
-  quiet env (Select e t) = quiet_from env e t (library_of env e) (operand env e) (quiet env e)
+  quiet env (Convert w e) = of_one (convert_outcome w (spot_of e)) (operand env e) refl (quiet_convert w (spot_of e)) (quiet env e)
+  quiet env (Select e t) = quiet_from env (spot_of e) t (library_of env e) (operand env e) (quiet env e)
   quiet env (Index e i) =
-      of_two (index_outcome e i) (operand env e) (operand env i) (λ d. refl) (index_right e i) (quiet_index e i) (quiet env e) (quiet env i)
+      of_two (index_outcome (spot_of e) (spot_of i)) (operand env e) (operand env i) (λ d. refl) (index_right (spot_of e) (spot_of i)) (quiet_index (spot_of e) (spot_of i)) (quiet env e) (quiet env i)
   quiet env (Slice e a b) =
-      quiet_slice e (operand env e) (bound_parts env a) (bound_parts env b) (bound_findings env a) (bound_findings env b)
+      quiet_slice (spot_of e) (operand env e) (bound_parts env a) (bound_parts env b) (bound_findings env a) (bound_findings env b)
       (quiet env e) (quiet_bound env a) (quiet_bound env b)
-  quiet env (Unary t e) = of_one (unary_outcome t e) (operand env e) refl (quiet_unary t e) (quiet env e)
+  quiet env (Unary t e) = of_one (unary_outcome t (spot_of e)) (operand env e) refl (quiet_unary t (spot_of e)) (quiet env e)
   quiet env (Binary a t b) =
-      of_two (binary_outcome t a b) (operand env a) (operand env b) (λ d. refl) (binary_right t a b) (quiet_binary t a b) (quiet env a) (quiet env b)
+      of_two (binary_outcome t (spot_of a) (spot_of b)) (operand env a) (operand env b) (λ d. refl) (binary_right t (spot_of a) (spot_of b)) (quiet_binary t (spot_of a) (spot_of b)) (quiet env a) (quiet env b)
 
   quiet_bound : (env : Env) (b : Bound) → QuietBound env b
   quiet_bound env left_out = inr empty
   quiet_bound env (bound e) = ⊎_elim
-      (λ (n : (operand env e).class ≡ None). inl (ap (λ c. some_is_nothing (record { expr = e; class = c } ∷ [])) n))
+      (λ (n : (operand env e).class ≡ None). inl (ap (λ c. some_is_nothing (part_of e c ∷ [])) n))
       (λ k. inr k) (quiet env e)
 
 pub faults_silence : FaultsSilence

@@ -5,10 +5,18 @@ use Rattle.gv_base.specs.declared.answers.Code.TheVariants.{Undeclared, Twice, W
 use Rattle.gv_gosyntax.specs.declared.generated.gosyntax_table.TheConstants.{CLASS_DEFINE}
 use Rattle.gv_gosyntax.specs.declared.lexeme.Lexeme.{Lexeme}
 use Rattle.gv_gotypes.specs.Trees.{Expr, Constant, Name, Paren, Convert, Select, Index, Slice, Unary, Binary, Right, Value, Result}
-use Rattle.gv_gotypes.specs.Types.{GoType, Word, Boolean, Map, Pointer, same_type, Class, Run, own_type_of, Finding, Fault, Assigned, unless}
+use Rattle.gv_operands.specs.declared.types.GoType.{GoType}
+use Rattle.gv_operands.specs.declared.types.GoType.TheVariants.{Word, Boolean, Map, Pointer}
+use Rattle.gv_operands.specs.declared.types.Class.{Class}
+use Rattle.gv_operands.specs.declared.types.Class.TheVariants.{Run}
+use Rattle.gv_operands.specs.Types.{same_type, own_type_of}
+use Rattle.gv_operands.specs.declared.part.Spot.{Spot}
+use Rattle.gv_gotypes.specs.Types.{Finding, Fault, Assigned, unless}
 use Rattle.gv_gotypes.specs.Scopes.{Env, Imported, StructOf, ConstantOf, ProcedureOf, Variable, Found, name_in, is_blank, is_here, found, with_variable}
 use Rattle.gv_gotypes.specs.Members.{Member, FieldOf, library_member, base_member}
-use Rattle.gv_gotypes.specs.Places.{start_of, bare, refusals, Want, Exactly, AnyTyped, Unknown, want, in_place}
+use Rattle.gv_operands.specs.declared.part.Want.{Want}
+use Rattle.gv_operands.specs.declared.part.Want.TheVariants.{Exactly, AnyTyped, Unknown}
+use Rattle.gv_gotypes.specs.Places.{start_of, bare, spot_of, refusals, want, in_place}
 use Rattle.gv_gotypes.specs.Expressions.{operand, library_of, outer_use}
 use Rattle.gv_gotypes.specs.Calls.{answer, call_start, placed}
 
@@ -52,9 +60,9 @@ abbrev pub refused_or : List Finding → Target → Target
 refused_or [] c = c
 refused_or (f ∷ fs) c = no_target (f ∷ fs)
 
-abbrev pub field_target : Env → Expr → Lexeme → Option Class → Target
+abbrev pub field_target : Env → Spot → Lexeme → Option Class → Target
 field_target env e t None = no_target []
-field_target env e t (Some c) = refused_or (refusals (record { expr = e; class = Some c } ∷ [])) (class_target env c t (start_of e))
+field_target env e t (Some c) = refused_or (refusals (record { spot = e; class = Some c } ∷ [])) (class_target env c t e.start)
 
 abbrev pub also : List Finding → Target → Target
 also fs t = record { wants = t.wants; findings = fs ++ t.findings }
@@ -64,7 +72,7 @@ abbrev pub target : Env → Expr → Target
 target env (Name t) = name_target env t
 target env (Select e t) = elim (library_of env e) [
   | Some l ↦ member_target (library_member l (name_in env.source t)) t.start (start_of e)
-  | None ↦ let o = operand env e in also o.findings (field_target env e t o.class)
+  | None ↦ let o = operand env e in also o.findings (field_target env (spot_of e) t o.class)
 ]
 target env (Index e i) = let o = operand env (Index e i) in record { wants = want (own_type_of o.class); findings = o.findings }
 target env other = no_target (Fault (start_of other) NotAssignable ∷ [])
@@ -194,7 +202,7 @@ right_findings env ts statement (Result c) = let a = answer env c in a.findings 
 -- ---- what is declared
 
 -- the type that a new variable gets of an operand
-abbrev pub settled : Expr → Option Class → Option GoType
+abbrev pub settled : Spot → Option Class → Option GoType
 settled e c = elim (in_place e AnyTyped c) [ [] ↦ own_type_of c | f ∷ fs ↦ None ]
 
 abbrev pub unknown_for : {T : Type 0} → List T → List (Option GoType)
@@ -211,7 +219,7 @@ read_types k = None
 
 -- the types that new variables get, one for a left side
 abbrev pub given_types : Env → List Expr → Right → List (Option GoType)
-given_types env (l ∷ []) (Value e) = settled e (operand env e).class ∷ []
+given_types env (l ∷ []) (Value e) = settled (spot_of e) (operand env e).class ∷ []
 given_types env ls (Value e) = types_for ls (read_types (is_map_read env e))
 given_types env ls (Result c) = types_for ls (answer env c).results
 

@@ -6,11 +6,21 @@ use Rattle.gv_gosyntax.specs.declared.generated.gosyntax_table.TheConstants.{CLA
 use Rattle.gv_gosyntax.specs.declared.lexeme.Lexeme.{Lexeme}
 use Rattle.gv_gosyntax.specs.declared.tree.GoType.{GoType as TypeTree}
 use Rattle.gv_gotypes.specs.Trees.{Expr, Name, Select, KeyedExpr, Call, Function, Pair, Make, New, Literal}
-use Rattle.gv_gotypes.specs.Types.{GoType, Word, Map, Pointer, Base, Struct, item_of, Class, Run, own_type_of, Finding, Fault, unless}
+use Rattle.gv_operands.specs.declared.types.Base.{Base}
+use Rattle.gv_operands.specs.declared.types.Base.TheVariants.{Struct}
+use Rattle.gv_operands.specs.declared.types.GoType.{GoType}
+use Rattle.gv_operands.specs.declared.types.GoType.TheVariants.{Word, Map, Pointer}
+use Rattle.gv_operands.specs.declared.types.Class.{Class}
+use Rattle.gv_operands.specs.declared.types.Class.TheVariants.{Run}
+use Rattle.gv_operands.specs.Types.{item_of, own_type_of}
+use Rattle.gv_operands.specs.declared.part.Spot.{Spot}
+use Rattle.gv_gotypes.specs.Types.{Finding, Fault, unless}
 use Rattle.gv_gotypes.specs.Scopes.{Env, Entity, ProcedureOf, Signature, FieldType, Package, name_in, is_blank, entity_named, next_of}
 use Rattle.gv_gotypes.specs.Kinds.{kind_of, kind_findings, name_findings, struct_in, mutex_in, type_start}
 use Rattle.gv_gotypes.specs.Members.{Member, FieldOf, Called, library_member, base_member, field_from}
-use Rattle.gv_gotypes.specs.Places.{start_of, refusals, Want, Exactly, AMap, ASlice, Unknown, want, in_place}
+use Rattle.gv_operands.specs.declared.part.Want.{Want}
+use Rattle.gv_operands.specs.declared.part.Want.TheVariants.{Exactly, AMap, ASlice, Unknown}
+use Rattle.gv_gotypes.specs.Places.{start_of, spot_of, refusals, want, in_place}
 use Rattle.gv_gotypes.specs.Expressions.{operand, library_of}
 
 -- What a call gives, where that is known, and what is found in it.
@@ -20,7 +30,7 @@ pub record Answer : Type 0 where
 
 -- an operand in a place, with all that is found in it
 abbrev pub placed : Env → Want → Expr → List Finding
-placed env w e = let o = operand env e in o.findings ++ in_place e w o.class
+placed env w e = let o = operand env e in o.findings ++ in_place (spot_of e) w o.class
 
 -- ---- what is called
 
@@ -49,9 +59,9 @@ abbrev pub refused_or : List Finding → Callee → Callee
 refused_or [] c = c
 refused_or (f ∷ fs) c = no_callee (f ∷ fs)
 
-abbrev pub method_callee : Env → Expr → Lexeme → Option Class → Callee
+abbrev pub method_callee : Env → Spot → Lexeme → Option Class → Callee
 method_callee env e t None = no_callee []
-method_callee env e t (Some c) = refused_or (refusals (record { expr = e; class = Some c } ∷ [])) (class_callee env c t (start_of e))
+method_callee env e t (Some c) = refused_or (refusals (record { spot = e; class = Some c } ∷ [])) (class_callee env c t e.start)
 
 abbrev pub with_findings : List Finding → Callee → Callee
 with_findings fs c = record { signature = c.signature; findings = fs ++ c.findings }
@@ -61,7 +71,7 @@ abbrev pub callee : Env → Expr → Callee
 callee env (Name t) = entity_callee env.declared t.start (entity_named env (name_in env.source t))
 callee env (Select e t) = elim (library_of env e) [
   | Some l ↦ member_callee (library_member l (name_in env.source t)) t.start (start_of e)
-  | None ↦ let o = operand env e in with_findings o.findings (method_callee env e t o.class)
+  | None ↦ let o = operand env e in with_findings o.findings (method_callee env (spot_of e) t o.class)
 ]
 callee env other = no_callee (Fault (start_of other) WrongType ∷ [])
 

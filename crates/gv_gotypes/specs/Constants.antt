@@ -5,9 +5,15 @@ use Rattle.gv_gosyntax.specs.declared.lexeme.Lexeme.{Lexeme}
 use Rattle.gv_gotypes.specs.Trees as decl
 use Rattle.gv_gotypes.specs.Trees.{Decl, File}
 use Rattle.gv_gotypes.specs.Trees.{Expr, Constant, Name, Paren, Convert, Select, Index, Slice, Unary, Binary, Bound, left_out, bound}
-use Rattle.gv_gotypes.specs.Types.{Word, Untyped, OfWord, Class, Fixed, Finding, Fault}
+use Rattle.gv_operands.specs.declared.types.GoType.TheVariants.{Word}
+use Rattle.gv_operands.specs.declared.types.Kind.TheVariants.{Untyped, OfWord}
+use Rattle.gv_operands.specs.declared.types.Class.{Class}
+use Rattle.gv_operands.specs.declared.types.Class.TheVariants.{Fixed}
+use Rattle.gv_operands.specs.declared.part.Spot.{Spot}
+use Rattle.gv_gotypes.specs.Types.{Finding, Fault}
 use Rattle.gv_gotypes.specs.Scopes.{Source, Entity, ConstantOf, Package, Env, name_in, entity_named}
-use Rattle.gv_gotypes.specs.Places.{start_of, refusal, Exactly, in_place, unless_refused}
+use Rattle.gv_operands.specs.declared.part.Want.TheVariants.{Exactly}
+use Rattle.gv_gotypes.specs.Places.{start_of, spot_of, refusal, in_place, unless_refused}
 use Rattle.gv_gotypes.specs.Expressions.{operand}
 use Rattle.gv_gotypes.specs.Declarations.{outside, without_constants}
 
@@ -94,15 +100,15 @@ declared_by s f = let cs = constant_trees f.decls in let p = without_constants s
 -- ---- what is found in it
 
 -- with `uint64` it stands in the place of a word; else it must be a constant
-abbrev pub constant_place : Bool → Expr → Option Class → List Finding
+abbrev pub constant_place : Bool → Spot → Option Class → List Finding
 constant_place true e c = in_place e (Exactly Word) c
 constant_place false e None = []
 constant_place false e (Some (Fixed k v)) = refusal e (Fixed k v)
-constant_place false e (Some c) = unless_refused (refusal e c) (Fault (start_of e) WrongType ∷ [])
+constant_place false e (Some c) = unless_refused (refusal e c) (Fault e.start WrongType ∷ [])
 
 -- What is found in the declaration of the constant with a number. One with `uint64` takes constants alone, as any does: outside of functions
 -- there is nothing else that a word is made of.
 abbrev pub constant_findings : Env → List ConstantTree → ℕ → Bool → Expr → List Finding
 constant_findings env cs n is_word e = let o = operand env e in
     (if leads_back env cs n then Fault (start_of e) WrongType ∷ [] else [])
-    ++ (o.findings ++ constant_place is_word e o.class)
+    ++ (o.findings ++ constant_place is_word (spot_of e) o.class)

@@ -5,7 +5,7 @@ use Rattle.gv_gosyntax.specs.declared.lexeme.Lexeme.{Lexeme}
 use Rattle.gv_gotypes.specs.Trees as decl
 use Rattle.gv_gotypes.specs.Trees.{FuncTree, Decl, File}
 use Rattle.gv_gosyntax.specs.declared.tree.Group.{Group}
-use Rattle.gv_gotypes.specs.Types.{GoType}
+use Rattle.gv_operands.specs.declared.types.GoType.{GoType}
 use Rattle.gv_gotypes.specs.Scopes.{Source, Library, Sync, Disk, TwoDisk, Machine, Entity, Imported, StructOf, ConstantOf, ProcedureOf, Signature, FieldType, Method, StructType, Named, Package, Env, name_in, entity_named}
 use Rattle.gv_gotypes.specs.Kinds.{kind_of}
 use Rattle.gv_gotypes.specs.Literals.{element_of}

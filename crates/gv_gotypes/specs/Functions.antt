@@ -6,7 +6,9 @@ use Rattle.gv_gotypes.specs.Trees.{FuncTree, Block, braces}
 use Rattle.gv_gosyntax.specs.declared.tree.Group.{Group}
 use Rattle.gv_gosyntax.specs.declared.tree.Receiver.{Receiver}
 use Rattle.gv_gosyntax.specs.declared.tree.GoType.{GoType as TypeTree}
-use Rattle.gv_gotypes.specs.Types.{GoType, Pointer, Finding, Fault, Outer, Assigned, unless}
+use Rattle.gv_operands.specs.declared.types.GoType.{GoType}
+use Rattle.gv_operands.specs.declared.types.GoType.TheVariants.{Pointer}
+use Rattle.gv_gotypes.specs.Types.{Finding, Fault, Outer, Assigned, unless}
 use Rattle.gv_gotypes.specs.Scopes.{Env, name_in, entity_named, with_variable, token_before}
 use Rattle.gv_gotypes.specs.Kinds.{kind_of, kind_findings, name_findings, struct_in}
 use Rattle.gv_gotypes.specs.Statements.{block_findings}

@@ -7,7 +7,11 @@ use Rattle.gv_gosyntax.specs.declared.tree.Pointed.{Pointed}
 use Rattle.gv_gosyntax.specs.declared.tree.Pointed.TheVariants.{Named, Mutex as MutexTree}
 use Rattle.gv_gosyntax.specs.declared.tree.GoType.{GoType as TypeTree}
 use Rattle.gv_gosyntax.specs.declared.tree.GoType.TheVariants as tree
-use Rattle.gv_gotypes.specs.Types.{Base, Struct, Mutex, GoType, Word, Byte, Boolean, Bytes, Words, Pointers, Map, Pointer, Finding, Fault}
+use Rattle.gv_operands.specs.declared.types.Base.{Base}
+use Rattle.gv_operands.specs.declared.types.Base.TheVariants.{Struct, Mutex}
+use Rattle.gv_operands.specs.declared.types.GoType.{GoType}
+use Rattle.gv_operands.specs.declared.types.GoType.TheVariants.{Word, Byte, Boolean, Bytes, Words, Pointers, Map, Pointer}
+use Rattle.gv_gotypes.specs.Types.{Finding, Fault}
 use Rattle.gv_gotypes.specs.Scopes.{Env, Entity, Imported, StructOf, Sync, Disk, TwoDisk, name_in, entity_named}
 
 -- where a type begins
@@ -29,9 +33,16 @@ abbrev pub mutex_in : Option Entity → Option Base
 mutex_in (Some (Imported Sync)) = Some Mutex
 mutex_in _ = None
 
+abbrev pub word_of_pointed : Pointed → Lexeme
+word_of_pointed (Named t) = t
+word_of_pointed (MutexTree t) = t
+
+abbrev pub base_in : Pointed → Option Entity → Option Base
+base_in (Named t) e = struct_in e
+base_in (MutexTree t) e = mutex_in e
+
 abbrev pub base_of : Env → Pointed → Option Base
-base_of env (Named t) = struct_in (entity_named env (name_in env.source t))
-base_of env (MutexTree t) = mutex_in (entity_named env (name_in env.source t))
+base_of env p = base_in p (entity_named env (name_in env.source (word_of_pointed p)))
 
 -- `disk.Block` and `twodisk.Block` are `[]byte`, each of its own package
 abbrev pub block_in : ℕ → Option Entity → Option GoType
@@ -42,9 +53,12 @@ block_in class _ = None
 abbrev pub word_type : ℕ → GoType
 word_type class = if class == CLASS_UINT64 then Word else (if class == CLASS_BYTE then Byte else Boolean)
 
+abbrev pub slice_type : ℕ → GoType
+slice_type class = if class == CLASS_BYTE then Bytes else Words
+
 abbrev pub kind_of : Env → TypeTree → Option GoType
 kind_of env (tree.Word w) = Some (word_type w.class)
-kind_of env (tree.Slice o w) = Some (if w.class == CLASS_BYTE then Bytes else Words)
+kind_of env (tree.Slice o w) = Some (slice_type w.class)
 kind_of env (tree.Pointers o p) = option_map Pointers (base_of env p)
 kind_of env (tree.Map m) = Some Map
 kind_of env (tree.Pointer s p) = option_map Pointer (base_of env p)
@@ -52,15 +66,14 @@ kind_of env (tree.Block k) = block_in k.class (entity_named env (name_in env.sou
 
 -- ---- its faults
 
+abbrev pub undeclared : ℕ → List Finding
+undeclared at = Fault at Undeclared ∷ []
+
 -- A name is Undeclared where nothing bears it; one that is none of the wanted kind is WrongType where the type begins.
 abbrev pub name_findings : {T : Type 0} → Option Entity → Option T → ℕ → ℕ → List Finding
-name_findings None meant name start = Fault name Undeclared ∷ []
+name_findings None meant name start = undeclared name
 name_findings (Some e) None name start = Fault start WrongType ∷ []
 name_findings (Some e) (Some t) name start = []
-
-abbrev pub word_of_pointed : Pointed → Lexeme
-word_of_pointed (Named t) = t
-word_of_pointed (MutexTree t) = t
 
 abbrev pub base_findings : Env → Pointed → ℕ → List Finding
 base_findings env p start = let t = word_of_pointed p in

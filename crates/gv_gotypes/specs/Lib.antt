@@ -1,6 +1,5 @@
 pub mod Trees
 pub mod Types
-pub mod Operators
 pub mod Scopes
 pub mod Kinds
 pub mod Members

@@ -1,7 +1,14 @@
 -- What stands behind a point: members of packages, fields and methods.
 use Rattle.std.specs.Prelude.{ℕ, suc, if◌then◌else◌, List, [], ◌∷◌, map, Option, Some, None, option_map, option_and_then, codes, slice_get}
 use Rattle.std.specs.Str.{bytes_eq}
-use Rattle.gv_gotypes.specs.Types.{GoType, Word, Boolean, Bytes, Base, Struct, Mutex, Class, Fixed, OfWord, Count}
+use Rattle.gv_operands.specs.declared.types.Base.{Base}
+use Rattle.gv_operands.specs.declared.types.Base.TheVariants.{Struct, Mutex}
+use Rattle.gv_operands.specs.declared.types.GoType.{GoType}
+use Rattle.gv_operands.specs.declared.types.GoType.TheVariants.{Word, Boolean, Bytes}
+use Rattle.gv_operands.specs.declared.types.Value.TheVariants.{Count}
+use Rattle.gv_operands.specs.declared.types.Kind.TheVariants.{OfWord}
+use Rattle.gv_operands.specs.declared.types.Class.{Class}
+use Rattle.gv_operands.specs.declared.types.Class.TheVariants.{Fixed}
 use Rattle.gv_gotypes.specs.Scopes.{Library, Sync, Disk, TwoDisk, Machine, Signature, FieldType, Method, StructType, Package, is_blank}
 
 -- A member: a constant or a field, which is an operand of a class, or of none where it is refused; what is called; or a type.

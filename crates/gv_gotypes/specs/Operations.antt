@@ -7,7 +7,10 @@ use Rattle.gv_gotypes.specs.Trees as decl
 use Rattle.gv_gotypes.specs.Trees.{FuncTree, Decl, File}
 use Rattle.gv_gosyntax.specs.declared.tree.Group.{Group}
 use Rattle.gv_gosyntax.specs.declared.tree.GoType.{GoType as TypeTree}
-use Rattle.gv_gotypes.specs.Types.{GoType, Word, Boolean, Bytes, Pointer, Struct, Finding, Fault, unless}
+use Rattle.gv_operands.specs.declared.types.Base.TheVariants.{Struct}
+use Rattle.gv_operands.specs.declared.types.GoType.{GoType}
+use Rattle.gv_operands.specs.declared.types.GoType.TheVariants.{Word, Boolean, Bytes, Pointer}
+use Rattle.gv_gotypes.specs.Types.{Finding, Fault, unless}
 use Rattle.gv_gotypes.specs.Scopes.{Env, Source, name_in}
 use Rattle.gv_gotypes.specs.Kinds.{kind_of, type_start}
 use Rattle.gv_gotypes.specs.Declarations.{declared_name, no_counts, struct_of_method, is_number}

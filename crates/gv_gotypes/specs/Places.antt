@@ -2,8 +2,19 @@
 use Rattle.std.specs.Prelude.{ℕ, Bool, true, false, nat_lt, if◌then◌else◌, List, [], ◌∷◌, ◌++◌, Option, Some, None, is_some}
 use Rattle.gv_base.specs.declared.answers.Code.TheVariants.{WrongType, ConstTooLarge}
 use Rattle.gv_gotypes.specs.Trees.{Expr, Constant, Name, Paren, Convert, Select, Index, Slice, Unary, Binary}
-use Rattle.gv_gotypes.specs.Types.{GoType, Word, Byte, Map, item_of, same_type, has_nil, Count, Untyped, Class, Run, Fixed, Shifted, Nil, Length, own_type, Finding, Fault, unless}
-use Rattle.gv_gotypes.specs.Operators.{is_fixed}
+use Rattle.gv_operands.specs.declared.types.GoType.{GoType}
+use Rattle.gv_operands.specs.declared.types.GoType.TheVariants.{Word, Byte, Map}
+use Rattle.gv_operands.specs.declared.types.Value.TheVariants.{Count}
+use Rattle.gv_operands.specs.declared.types.Kind.TheVariants.{Untyped}
+use Rattle.gv_operands.specs.declared.types.Class.{Class}
+use Rattle.gv_operands.specs.declared.types.Class.TheVariants.{Run, Fixed, Shifted, Nil, Length}
+use Rattle.gv_operands.specs.Types.{item_of, same_type, has_nil, own_type}
+use Rattle.gv_operands.specs.declared.part.Want.{Want}
+use Rattle.gv_operands.specs.declared.part.Want.TheVariants.{Exactly, AnyTyped, ASlice, AMap, Unknown}
+use Rattle.gv_operands.specs.declared.part.Spot.{Spot}
+use Rattle.gv_operands.specs.declared.part.Part.{Part}
+use Rattle.gv_gotypes.specs.Types.{Finding, Fault, unless}
+use Rattle.gv_operands.specs.Operators.{is_fixed}
 
 -- ---- where an operand begins
 
@@ -30,6 +41,10 @@ bare (Slice e a b) = Slice e a b
 bare (Unary t e) = Unary t e
 bare (Binary a t b) = Binary a t b
 
+-- where an operand begins, with its own parentheses and without
+abbrev pub spot_of : Expr → Spot
+spot_of e = record { start = start_of e; inner = start_of (bare e) }
+
 -- ---- operands that are refused where they stand
 
 -- What is made of an operand, and what is found in it.
@@ -39,18 +54,17 @@ pub record Outcome : Type 0 where
 
 -- It is so wherever it stands but in a larger constant: a constant whose value is outside is ConstTooLarge where it begins, and `len` WrongType
 -- but in `uint64(len(e))`.
-abbrev pub refusal : Expr → Class → List Finding
-refusal e (Fixed k None) = Fault (start_of e) ConstTooLarge ∷ []
-refusal e Length = Fault (start_of (bare e)) WrongType ∷ []
+abbrev pub refusal : Spot → Class → List Finding
+refusal e (Fixed k None) = Fault e.start ConstTooLarge ∷ []
+refusal e Length = Fault e.inner WrongType ∷ []
 refusal e c = []
 
--- a part of a form, and what it is, if anything
-pub record Part : Type 0 where
-  pub expr : Expr
-  pub class : Option Class
+-- a part of a form
+abbrev pub part_of : Expr → Option Class → Part
+part_of e c = record { spot = spot_of e; class = c }
 
 abbrev pub part_refusal : Part → List Finding
-part_refusal p = elim p.class [ None ↦ [] | Some c ↦ refusal p.expr c ]
+part_refusal p = elim p.class [ None ↦ [] | Some c ↦ refusal p.spot c ]
 
 abbrev pub is_nothing : Part → Bool
 is_nothing p = elim p.class [ None ↦ true | Some c ↦ false ]
@@ -86,26 +100,21 @@ behind fs o = record { class = o.class; findings = fs ++ o.findings }
 
 -- ---- what a place wants
 
--- a type, any type that the operand has by itself, or nothing that is known
-pub data Want : Type 0 where
-  Exactly : GoType → Want
-  AnyTyped : Want
-  -- a slice, and a map, which `nil` is not
-  ASlice : Want
-  AMap : Want
-  Unknown : Want
-
 abbrev pub want : Option GoType → Want
 want None = Unknown
 want (Some t) = Exactly t
 
+-- a type that an operand has by itself is another one
+abbrev pub unlike : Spot → GoType → Option GoType → List Finding
+unlike e t own = elim own [ None ↦ Fault e.start WrongType ∷ [] | Some u ↦ unless (same_type t u) e.start WrongType ]
+
 -- what an operand that is not refused wherever it stands has against a type: a number without one that is above 255 is too large for a byte
-abbrev pub misfit : Expr → GoType → Class → List Finding
+abbrev pub misfit : Spot → GoType → Class → List Finding
 misfit e Word (Fixed Untyped v) = []
-misfit e Byte (Fixed Untyped (Some (Count n))) = unless (nat_lt n 256) (start_of e) ConstTooLarge
+misfit e Byte (Fixed Untyped (Some (Count n))) = unless (nat_lt n 256) e.start ConstTooLarge
 misfit e Word Shifted = []
-misfit e t Nil = unless (has_nil t) (start_of e) WrongType
-misfit e t c = elim (own_type c) [ None ↦ Fault (start_of e) WrongType ∷ [] | Some u ↦ unless (same_type t u) (start_of e) WrongType ]
+misfit e t Nil = unless (has_nil t) e.start WrongType
+misfit e t c = unlike e t (own_type c)
 
 abbrev pub is_slice : Class → Bool
 is_slice (Run t) = is_some (item_of t)
@@ -115,18 +124,18 @@ abbrev pub is_map : Class → Bool
 is_map (Run Map) = true
 is_map c = false
 
-abbrev pub against : Expr → Want → Class → List Finding
+abbrev pub against : Spot → Want → Class → List Finding
 against e Unknown c = []
-against e AnyTyped c = elim (own_type c) [ None ↦ Fault (start_of e) WrongType ∷ [] | Some t ↦ [] ]
+against e AnyTyped c = elim (own_type c) [ None ↦ Fault e.start WrongType ∷ [] | Some t ↦ [] ]
 against e (Exactly t) c = misfit e t c
-against e ASlice c = unless (is_slice c) (start_of e) WrongType
-against e AMap c = unless (is_map c) (start_of e) WrongType
+against e ASlice c = unless (is_slice c) e.start WrongType
+against e AMap c = unless (is_map c) e.start WrongType
 
 abbrev pub unless_refused : List Finding → List Finding → List Finding
 unless_refused [] fs = fs
 unless_refused (r ∷ rs) fs = r ∷ rs
 
 -- what is found of an operand where it stands
-abbrev pub in_place : Expr → Want → Option Class → List Finding
+abbrev pub in_place : Spot → Want → Option Class → List Finding
 in_place e w None = []
 in_place e w (Some c) = unless_refused (refusal e c) (against e w c)

@@ -2,7 +2,13 @@
 use Rattle.std.specs.Prelude.{ℕ, Bool, true, false, ◌&&◌, ◌==◌, nat_lt, if◌then◌else◌, List, [], ◌∷◌, Option, Some, None, option_map, option_and_then, codes, slice_get, slice_range}
 use Rattle.std.specs.Str.{bytes_eq}
 use Rattle.gv_gosyntax.specs.declared.lexeme.Lexeme.{Lexeme}
-use Rattle.gv_gotypes.specs.Types.{GoType, Class}
+pub use Rattle.gv_gotypes.specs.declared.names.Library.{Library}
+pub use Rattle.gv_gotypes.specs.declared.names.Library.TheVariants.{Sync, Disk, TwoDisk, Machine}
+pub use Rattle.gv_gotypes.specs.declared.names.Entity.{Entity}
+pub use Rattle.gv_gotypes.specs.declared.names.Entity.TheVariants.{Imported, StructOf, ConstantOf, ProcedureOf, Variable}
+pub use Rattle.gv_gotypes.specs.declared.names.Found.{Found}
+use Rattle.gv_operands.specs.declared.types.GoType.{GoType}
+use Rattle.gv_operands.specs.declared.types.Class.{Class}
 
 -- The text of a package and its tokens, as the grammar sees them. The bytes of a name are those of the text.
 pub record Source : Type 0 where
@@ -15,24 +21,6 @@ name_in s t = slice_range s.text t.start t.end
 -- `_` declares nothing
 abbrev pub is_blank : List ℕ → Bool
 is_blank name = bytes_eq name (codes "_")
-
--- ---- what names stand for
-
--- packages that may be imported; `primitive` is another name of `machine`
-pub data Library : Type 0 where
-  Sync : Library
-  Disk : Library
-  TwoDisk : Library
-  Machine : Library
-
--- Structs, constants and procedures have the numbers of their declarations among those of their kind, in order of text. A method is a procedure.
--- A variable is known by where its name is declared; where its type is refused it has none.
-pub data Entity : Type 0 where
-  Imported : Library → Entity
-  StructOf : ℕ → Entity
-  ConstantOf : ℕ → Entity
-  ProcedureOf : ℕ → Entity
-  Variable : ℕ → Option GoType → Entity
 
 -- ---- what a package declares
 
@@ -85,11 +73,6 @@ pub record Env : Type 0 where
   pub declared : Package
   pub entries : List Entry
   pub results : List (Option GoType)
-
--- what a name stands for, and whether a literal begins between its declaration and here
-pub record Found : Type 0 where
-  pub entity : Entity
-  pub is_outer : Bool
 
 -- the first one that bears a name
 abbrev pub named_in : List Named → List ℕ → Option Entity

@@ -4,10 +4,15 @@ use Rattle.gv_base.specs.declared.answers.Code.TheVariants.{Twice, WrongType, Wr
 use Rattle.gv_gosyntax.specs.declared.generated.gosyntax_table.TheConstants.{CLASS_DEFINE}
 use Rattle.gv_gosyntax.specs.declared.lexeme.Lexeme.{Lexeme}
 use Rattle.gv_gotypes.specs.Trees.{Expr, Name, Right, Value, Result, SimpleStmt, Assign, Count, Update, Calling, ForHeader, Stmt, Empty, Simple, Var, If, Nested, Jump, For, Return, Go, Block, braces, Stmts, no_more, next, Else, no_branch, branch}
-use Rattle.gv_gotypes.specs.Types.{GoType, Word, Boolean, same_type, Finding, Fault, unless}
+use Rattle.gv_operands.specs.declared.types.GoType.{GoType}
+use Rattle.gv_operands.specs.declared.types.GoType.TheVariants.{Word, Boolean}
+use Rattle.gv_operands.specs.Types.{same_type}
+use Rattle.gv_gotypes.specs.Types.{Finding, Fault, unless}
 use Rattle.gv_gotypes.specs.Scopes.{Env, name_in, is_blank, is_here, opened, in_literal, with_variable}
 use Rattle.gv_gotypes.specs.Kinds.{kind_of, kind_findings}
-use Rattle.gv_gotypes.specs.Places.{start_of, Want, Exactly, Unknown, want}
+use Rattle.gv_operands.specs.declared.part.Want.{Want}
+use Rattle.gv_operands.specs.declared.part.Want.TheVariants.{Exactly, Unknown}
+use Rattle.gv_gotypes.specs.Places.{start_of, spot_of, want}
 use Rattle.gv_gotypes.specs.Expressions.{operand, zero_divisor}
 use Rattle.gv_gotypes.specs.Calls.{Answer, answer, call_start, placed}
 use Rattle.gv_gotypes.specs.Assigning.{Target, target, targets, left_findings, right_findings, result_findings, given_types, declaring}
@@ -34,7 +39,7 @@ abbrev pub counted : Env → Expr → List Finding
 counted env e = let t = counted_target env e in t.findings ++ word_wanted (start_of e) t.wants
 
 abbrev pub divisor : Env → ℕ → Expr → List Finding
-divisor env sign e = elim (operand env e).class [ None ↦ [] | Some c ↦ zero_divisor sign e c ]
+divisor env sign e = elim (operand env e).class [ None ↦ [] | Some c ↦ zero_divisor sign (spot_of e) c ]
 
 abbrev pub simple_findings : Env → SimpleStmt → List Finding
 simple_findings env (Assign ls s r) =

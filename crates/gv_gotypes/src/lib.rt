@@ -4,5 +4,7 @@
 #![tactic(auto)]
 
 mod laws;
+mod names;
 
 pub use laws::{faults_silence, packages_are_typed_or_refused, worked_packages};
+pub use names::{Entity, Found, Library};

@@ -2,7 +2,14 @@
 use Rattle.std.specs.Prelude.{ℕ, ◌+◌, ◌-◌, ◌*◌, ◌/◌, ◌%◌, ◌^◌, Bool, true, false, ◌&&◌, ◌||◌, ◌==◌, not, nat_lt, nat_le, if◌then◌else◌, List, [], ◌∷◌, Option, Some, None, bit_and, bit_or, bit_xor}
 use Rattle.gv_grammar.specs.Derivation.{is_among}
 use Rattle.gv_gosyntax.specs.declared.generated.gosyntax_table.TheConstants.{CLASS_AMP, CLASS_AMP_CARET, CLASS_AND_AND, CLASS_AT_LEAST, CLASS_AT_MOST, CLASS_BANG, CLASS_BAR, CLASS_CARET, CLASS_EQUAL, CLASS_GREATER, CLASS_LESS, CLASS_MINUS, CLASS_NOT_EQUAL, CLASS_OR_OR, CLASS_PERCENT, CLASS_PERCENT_ASSIGN, CLASS_PLUS, CLASS_SHIFT_LEFT, CLASS_SHIFT_RIGHT, CLASS_SLASH, CLASS_SLASH_ASSIGN, CLASS_STAR}
-use Rattle.gv_gotypes.specs.Types.{Word, Byte, Boolean, Value, Count, Truth, Kind, Untyped, OfWord, OfByte, OfBool, Class, Run, Fixed, Shifted, Nil, Length, meets_nil}
+use Rattle.gv_operands.specs.declared.types.GoType.TheVariants.{Word, Byte, Boolean}
+use Rattle.gv_operands.specs.declared.types.Value.{Value}
+use Rattle.gv_operands.specs.declared.types.Value.TheVariants.{Count, Truth}
+use Rattle.gv_operands.specs.declared.types.Kind.{Kind}
+use Rattle.gv_operands.specs.declared.types.Kind.TheVariants.{Untyped, OfWord, OfByte, OfBool}
+use Rattle.gv_operands.specs.declared.types.Class.{Class}
+use Rattle.gv_operands.specs.declared.types.Class.TheVariants.{Run, Fixed, Shifted, Nil, Length}
+use Rattle.gv_operands.specs.Types.{meets_nil}
 
 -- ---- operators by their signs
 
@@ -44,6 +51,15 @@ shifted_right a n = if nat_lt n 64 then Some (Count (a / 2 ^ n)) else Some (Coun
 abbrev pub divided : (ℕ → ℕ → ℕ) → ℕ → ℕ → Option Value
 divided of a b = if b == 0 then None else Some (Count (of a b))
 
+-- an operator on bits, and shifts
+abbrev pub computed_bits : ℕ → ℕ → ℕ → Option Value
+computed_bits sign a b =
+    if sign == CLASS_AMP then Some (Count (bit_and a b)) else (
+    if sign == CLASS_BAR then Some (Count (bit_or a b)) else (
+    if sign == CLASS_CARET then Some (Count (bit_xor a b)) else (
+    if sign == CLASS_AMP_CARET then Some (Count (a - bit_and a b)) else (
+    if sign == CLASS_SHIFT_LEFT then shifted_left a b else shifted_right a b))))
+
 -- an operator over whole numbers; its value is outside where it is less than 0 or more than 2^64-1
 abbrev pub computed : ℕ → ℕ → ℕ → Option Value
 computed sign a b =
@@ -51,12 +67,7 @@ computed sign a b =
     if sign == CLASS_MINUS then difference a b else (
     if sign == CLASS_STAR then word_within (a * b) else (
     if sign == CLASS_SLASH then divided (λ m n. m / n) a b else (
-    if sign == CLASS_PERCENT then divided (λ m n. m % n) a b else (
-    if sign == CLASS_AMP then Some (Count (bit_and a b)) else (
-    if sign == CLASS_BAR then Some (Count (bit_or a b)) else (
-    if sign == CLASS_CARET then Some (Count (bit_xor a b)) else (
-    if sign == CLASS_AMP_CARET then Some (Count (a - bit_and a b)) else (
-    if sign == CLASS_SHIFT_LEFT then shifted_left a b else shifted_right a b)))))))))
+    if sign == CLASS_PERCENT then divided (λ m n. m % n) a b else computed_bits sign a b))))
 
 abbrev pub compared : ℕ → ℕ → ℕ → Value
 compared sign a b =
@@ -144,13 +155,17 @@ shift sign a b =
     if is_fixed a && is_fixed b then Some (Fixed (common a a) (of_counts (computed sign) (value_in a) (value_in b))) else (
     if is_untyped a then Some Shifted else Some (Run Word)))
 
+-- how two constants of one type compare; a byte is at most 255
+abbrev pub compared_constants : ℕ → Class → Class → Option Value
+compared_constants sign a b =
+    of_counts (λ m n. Some (compared sign m n)) (as_byte (common a b) (value_in a)) (as_byte (common a b) (value_in b))
+
 -- a comparison of words, or of bytes: both may be numbers without a type only where both are constants
 abbrev pub comparison : ℕ → Class → Class → Option Class
 comparison sign a b =
     if not (takes_word a && takes_word b || takes_byte a && takes_byte b) then None else (
-    if is_fixed a && is_fixed b
-    then Some (Fixed OfBool (of_counts (λ m n. Some (compared sign m n)) (as_byte (common a b) (value_in a)) (as_byte (common a b) (value_in b))))
-    else (if is_untyped a && is_untyped b then None else Some (Run Boolean)))
+    if is_fixed a && is_fixed b then Some (Fixed OfBool (compared_constants sign a b)) else (
+    if is_untyped a && is_untyped b then None else Some (Run Boolean)))
 
 abbrev pub logic : ℕ → Class → Class → Option Class
 logic sign a b =
