@@ -1,0 +1,6 @@
+pub mod Firsts
+pub mod Faults
+pub mod FormLemmas
+pub mod OperandLemmas
+pub mod NameLemmas
+pub mod KindLemmas
