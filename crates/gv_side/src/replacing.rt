@@ -1,0 +1,66 @@
+//! Formulas that are alike once equals are put for equals.
+
+ghost use Rattle.std.specs.Prelude.{◌≡◌, ◌<◌, length, IfOk, IfErr};
+ghost use Rattle.gv_terms.specs.Store.{tree_at, trees_at, AreIn, Grows};
+ghost use Rattle.gv_terms.specs.Trees.{sort_of};
+ghost use Rattle.gv_certs.specs.Proving as spec;
+ghost use Rattle.gv_side.specs.Telling.{IsFault};
+
+use crate::ask::{ask, ask_known};
+use crate::making::equation;
+use gv_certs::{Cause, RuleFault};
+use gv_known::{is_reflexive, replaced, same};
+use gv_terms::{Term, TermStore};
+use std::alloc::Global;
+
+/// The certificate that the goal is the formula `within`, once `from` has become `to` in both.
+pub fn subst_in(
+    alloc: Global,
+    store: &mut TermStore,
+    facts: &[Term],
+    goal: Term,
+    from: Term,
+    to: Term,
+    within: Term,
+) -> Result<(), RuleFault>
+    requires facts { AreIn store.old facts.now }
+    requires goal { goal.id < length store.old }
+    requires from { from.id < length store.old }
+    requires to { to.id < length store.old }
+    requires within { within.id < length store.old }
+    requires alike { sort_of (tree_at store.old from.id) ≡ sort_of (tree_at store.old to.id) }
+    ensures holds { IfOk result (λ _. spec.AllHold (spec.premises (trees_at store.old facts.now) (tree_at store.old goal.id) (spec.subst_in (tree_at store.old from.id) (tree_at store.old to.id) (tree_at store.old within.id)))) }
+    ensures cause { IfErr result (IsFault (spec.premises (trees_at store.old facts.now) (tree_at store.old goal.id) (spec.subst_in (tree_at store.old from.id) (tree_at store.old to.id) (tree_at store.old within.id)))) }
+    ensures grows { Grows store.old store.new }
+{
+    let equal = equation(alloc, store, from, to)?;
+    ask_known(alloc, store, facts, equal)?;
+    ask_known(alloc, store, facts, within)?;
+    let one = replaced(alloc, store, from, to, goal)?;
+    let other = replaced(alloc, store, from, to, within)?;
+    ask(same(store, one, other), Cause::Mismatch)
+}
+
+/// The certificate that the goal becomes `t == t`, once `from` has become `to`.
+pub fn subst(
+    alloc: Global,
+    store: &mut TermStore,
+    facts: &[Term],
+    goal: Term,
+    from: Term,
+    to: Term,
+) -> Result<(), RuleFault>
+    requires facts { AreIn store.old facts.now }
+    requires goal { goal.id < length store.old }
+    requires from { from.id < length store.old }
+    requires to { to.id < length store.old }
+    requires alike { sort_of (tree_at store.old from.id) ≡ sort_of (tree_at store.old to.id) }
+    ensures holds { IfOk result (λ _. spec.AllHold (spec.premises (trees_at store.old facts.now) (tree_at store.old goal.id) (spec.subst (tree_at store.old from.id) (tree_at store.old to.id)))) }
+    ensures cause { IfErr result (IsFault (spec.premises (trees_at store.old facts.now) (tree_at store.old goal.id) (spec.subst (tree_at store.old from.id) (tree_at store.old to.id)))) }
+    ensures grows { Grows store.old store.new }
+{
+    let equal = equation(alloc, store, from, to)?;
+    ask_known(alloc, store, facts, equal)?;
+    let one = replaced(alloc, store, from, to, goal)?;
+    ask(is_reflexive(store, one), Cause::Mismatch)
+}
