@@ -3,7 +3,7 @@
 ghost use Rattle.std.specs.Prelude.{◌≡◌, ◌<◌, length, map, IfOk, IfErr};
 ghost use Rattle.gv_terms.specs.Store.{tree_at, trees_at, AreIn, Grows};
 ghost use Rattle.gv_certs.specs.Proving as spec;
-ghost use Rattle.gv_side.specs.Telling.{IsFault};
+ghost use Rattle.gv_side.specs.Telling.{IsFault, asked_of, axiom_of};
 
 use crate::ask::{ask, ask_known};
 use gv_axioms::{AxiomFault, instance};
@@ -42,8 +42,8 @@ pub fn by_axiom(
     requires facts { AreIn store.old facts.now }
     requires goal { goal.id < length store.old }
     requires parts { AreIn store.old parts.now }
-    ensures holds { IfOk result (λ _. spec.AllHold (spec.premises (trees_at store.old facts.now) (tree_at store.old goal.id) (spec.by_axiom number (trees_at store.old parts.now)))) }
-    ensures cause { IfErr result (IsFault (spec.premises (trees_at store.old facts.now) (tree_at store.old goal.id) (spec.by_axiom number (trees_at store.old parts.now)))) }
+    ensures holds { IfOk result (λ _. spec.AllHold (asked_of store.old facts.now goal (axiom_of store.old number parts.now))) }
+    ensures cause { IfErr result (IsFault (asked_of store.old facts.now goal (axiom_of store.old number parts.now))) }
     ensures grows { Grows store.old store.new }
 {
     let given = match instance(alloc, store, number, parts) {

@@ -6,7 +6,7 @@ ghost use Rattle.gv_terms.specs.Trees.{sort_of};
 ghost use Rattle.gv_terms.specs.declared.sort.Sort.TheVariants as sort;
 ghost use Rattle.gv_terms.specs.declared.tree.TermTree.{TermTree as Tree};
 ghost use Rattle.gv_certs.specs.Proving as spec;
-ghost use Rattle.gv_side.specs.Telling.{IsFault};
+ghost use Rattle.gv_side.specs.Telling.{IsFault, opposites_of};
 
 use crate::ask::ask_known;
 use crate::making::negation;
@@ -24,8 +24,8 @@ pub fn contra(
     requires facts { AreIn store.old facts.now }
     requires within { formula.id < length store.old }
     requires truth { sort_of (tree_at store.old formula.id) ≡ Some sort.Bool }
-    ensures holds { IfOk result (λ _. (f : Tree) → spec.AllHold (spec.premises (trees_at store.old facts.now) f (spec.contra (tree_at store.old formula.id)))) }
-    ensures cause { IfErr result (λ e. (f : Tree) → IsFault (spec.premises (trees_at store.old facts.now) f (spec.contra (tree_at store.old formula.id))) e) }
+    ensures holds { IfOk result (λ _. (f : Tree) → spec.AllHold (spec.premises (trees_at store.old facts.now) f (opposites_of store.old formula))) }
+    ensures cause { IfErr result (λ e. (f : Tree) → IsFault (spec.premises (trees_at store.old facts.now) f (opposites_of store.old formula)) e) }
     ensures grows { Grows store.old store.new }
 {
     ask_known(alloc, store, facts, formula)?;

@@ -4,7 +4,7 @@ ghost use Rattle.std.specs.Prelude.{◌≡◌, ◌<◌, length, IfOk, IfErr};
 ghost use Rattle.gv_terms.specs.Store.{tree_at, trees_at, AreIn, Grows};
 ghost use Rattle.gv_terms.specs.Trees.{sort_of};
 ghost use Rattle.gv_certs.specs.Proving as spec;
-ghost use Rattle.gv_side.specs.Telling.{IsFault};
+ghost use Rattle.gv_side.specs.Telling.{IsFault, asked_of, equals_in, equals_of};
 
 use crate::ask::{ask, ask_known};
 use crate::making::equation;
@@ -29,8 +29,8 @@ pub fn subst_in(
     requires to { to.id < length store.old }
     requires within { within.id < length store.old }
     requires alike { sort_of (tree_at store.old from.id) ≡ sort_of (tree_at store.old to.id) }
-    ensures holds { IfOk result (λ _. spec.AllHold (spec.premises (trees_at store.old facts.now) (tree_at store.old goal.id) (spec.subst_in (tree_at store.old from.id) (tree_at store.old to.id) (tree_at store.old within.id)))) }
-    ensures cause { IfErr result (IsFault (spec.premises (trees_at store.old facts.now) (tree_at store.old goal.id) (spec.subst_in (tree_at store.old from.id) (tree_at store.old to.id) (tree_at store.old within.id)))) }
+    ensures holds { IfOk result (λ _. spec.AllHold (asked_of store.old facts.now goal (equals_in store.old from to within))) }
+    ensures cause { IfErr result (IsFault (asked_of store.old facts.now goal (equals_in store.old from to within))) }
     ensures grows { Grows store.old store.new }
 {
     let equal = equation(alloc, store, from, to)?;
@@ -55,8 +55,8 @@ pub fn subst(
     requires from { from.id < length store.old }
     requires to { to.id < length store.old }
     requires alike { sort_of (tree_at store.old from.id) ≡ sort_of (tree_at store.old to.id) }
-    ensures holds { IfOk result (λ _. spec.AllHold (spec.premises (trees_at store.old facts.now) (tree_at store.old goal.id) (spec.subst (tree_at store.old from.id) (tree_at store.old to.id)))) }
-    ensures cause { IfErr result (IsFault (spec.premises (trees_at store.old facts.now) (tree_at store.old goal.id) (spec.subst (tree_at store.old from.id) (tree_at store.old to.id)))) }
+    ensures holds { IfOk result (λ _. spec.AllHold (asked_of store.old facts.now goal (equals_of store.old from to))) }
+    ensures cause { IfErr result (IsFault (asked_of store.old facts.now goal (equals_of store.old from to))) }
     ensures grows { Grows store.old store.new }
 {
     let equal = equation(alloc, store, from, to)?;
