@@ -6,7 +6,7 @@ abbrev pub signs_of_one : List (List ℕ)
 signs_of_one =
     codes "(" ∷ codes ")" ∷ codes "[" ∷ codes "]" ∷ codes "{" ∷ codes "}" ∷ codes "," ∷ codes ";" ∷ codes ":" ∷ codes "="
     ∷ codes "!" ∷ codes "<" ∷ codes ">" ∷ codes "+" ∷ codes "-" ∷ codes "*" ∷ codes "/" ∷ codes "%" ∷ codes "&" ∷ codes "|"
-    ∷ codes "^" ∷ []
+    ∷ codes "^" ∷ codes "?" ∷ []
 
 abbrev pub signs_of_two : List (List ℕ)
 signs_of_two =

@@ -9,7 +9,7 @@ fn is_sign_of_one(byte: u8) -> bool
 {
     match byte {
         b'(' | b')' | b'[' | b']' | b'{' | b'}' | b',' | b';' | b':' | b'=' | b'!' => true,
-        b'<' | b'>' | b'+' | b'-' | b'*' | b'/' | b'%' | b'&' | b'|' | b'^' => true,
+        b'<' | b'>' | b'+' | b'-' | b'*' | b'/' | b'%' | b'&' | b'|' | b'^' | b'?' => true,
         _ => false,
     }
 }
