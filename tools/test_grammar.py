@@ -179,6 +179,38 @@ class Nodes(unittest.TestCase):
         self.assertIn("record { takes = is_token ∷ []; makes = λ parts. PTree (made_leaf parts) }", parts_spec(grammar))
         self.assertIn("pub static TAKEN: [u8; 5] = [0, 0, 0, 0, 1];", parts_source(grammar))
 
+    def test_acts_of_a_fragment_come_first(self):
+        own = """language whole
+crate whole
+token Token
+include part.grammar
+roots Top:Pair
+code nodes
+
+classes
+    Key
+
+kinds
+    Pair = Pair | nothing
+
+acts
+    PAIR key:Token tree:Tree -> Pair
+        antt pair key tree
+
+rules
+    Top
+        pair = Key Item {PAIR}
+"""
+        with tempfile.TemporaryDirectory() as folder:
+            for name, text in (("part.grammar", FRAGMENT), ("whole.grammar", own)):
+                with open(os.path.join(folder, name), "w", encoding="utf-8") as file:
+                    file.write(text)
+            grammar = read_grammar(os.path.join(folder, "whole.grammar"))
+        self.assertIn("made_pair (PTree tree ∷ PToken key ∷ parts) = pair key tree\n", parts_spec(grammar))
+        self.assertIn("makes = λ parts. POther (PPair (made_pair parts)) }", parts_spec(grammar))
+        self.assertIn("whole_acts = part_acts ++ whole_own_acts\n", parts_spec(grammar))
+        self.assertIn("pub static TAKEN: [u8; 7] = [0, 0, 0, 0, 1, 1, 2];", parts_source(grammar))
+
     def test_types_of_definitions(self):
         self.assertEqual(antt_type("List<List<Lexeme>>"), "List (List Lexeme)")
         self.assertEqual(antt_type("Option<Boxed<Expr>>"), "Option Expr")

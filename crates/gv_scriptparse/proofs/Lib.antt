@@ -1,0 +1,10 @@
+pub mod Among
+pub mod Terms
+pub mod Forward
+pub mod Meanings
+pub mod DeclarationRules
+pub mod ItemRules
+pub mod CommandRules
+pub mod Backward
+pub mod Top
+pub mod Decided

@@ -1,0 +1,4 @@
+pub mod ScriptPredictive
+pub mod ScriptContains
+pub mod Leaving
+pub mod Nodes
