@@ -4,7 +4,7 @@ use Rattle.std.proofs.lemmas.List.{append-nil, map-append}
 use Rattle.gv_grammar.specs.Derivation.{is_among}
 use Rattle.gv_grammar.specs.Text.{plain, opens, tokens_of}
 use Rattle.gv_grammar.proofs.Meaning.{none, taken, acted, means, Made, mk, at, Phrase, Tail, one_class}
-use Rattle.gv_gosyntax.specs.declared.generated.gosyntax_table.TheConstants.{CLASS_AMP, CLASS_AND_AND, CLASS_BLOCK, CLASS_BYTE, CLASS_COLON, CLASS_COMMA, CLASS_DOT, CLASS_L_BRACE, CLASS_L_BRACKET, CLASS_L_PAREN, CLASS_MAKE, CLASS_MAP, CLASS_MUTEX, CLASS_NEW, CLASS_OR_OR, CLASS_R_BRACE, CLASS_R_BRACKET, CLASS_R_PAREN, CLASS_SEMI, CLASS_STAR, CLASS_SYNC, CLASS_TEXT, CLASS_UINT64, NAME_AFTER_EXPR, NAME_AFTER_FIELD, NAME_AFTER_KEYED, NAME_AFTER_PARAM, NAME_AFTER_SYNC, NAME_AFTER_TEXT, NAME_ARGUMENTS, NAME_BOUND, NAME_BRACKET, NAME_BUILT_IN, NAME_CLOSED, NAME_CLOSING, NAME_COMPARISON, NAME_COMPARISON_TAIL, NAME_CONJUNCTION, NAME_CONJUNCTION_TAIL, NAME_EXPR, NAME_EXPRS, NAME_EXPR_TAIL, NAME_FIELDS, NAME_IN_BRACKET, NAME_ITEMS, NAME_KEYED, NAME_LITERAL, NAME_MAKE_REST, NAME_OPERATORS, NAME_PARAMS, NAME_POINTED, NAME_PRIM, NAME_PRIM_TAIL, NAME_PRODUCT, NAME_PRODUCT_TAIL, NAME_SUM, NAME_SUM_TAIL, NAME_TEXTS, NAME_TYPE_OF, NAME_UNARY, NAME_WHOLE, RULE_AFTER_EXPR_END, RULE_AFTER_EXPR_MORE, RULE_AFTER_FIELD_END, RULE_AFTER_FIELD_MORE, RULE_AFTER_KEYED_END, RULE_AFTER_KEYED_MORE, RULE_AFTER_PARAM_END, RULE_AFTER_PARAM_MORE, RULE_AFTER_SYNC_MUTEX, RULE_AFTER_SYNC_NAME, RULE_AFTER_TEXT_END, RULE_AFTER_TEXT_MORE, RULE_ARGUMENTS_LIST, RULE_BOUND_NONE, RULE_BOUND_SOME, RULE_BRACKET_OPEN, RULE_BUILT_IN_MAKE, RULE_BUILT_IN_NEW, RULE_BUILT_IN_PAIR, RULE_CLOSED_CONSTANT, RULE_CLOSED_CONVERT, RULE_CLOSED_PAREN, RULE_CLOSING_INDEX, RULE_CLOSING_SLICE, RULE_COMPARISON_FIRST, RULE_COMPARISON_TAIL_END, RULE_COMPARISON_TAIL_MORE, RULE_CONJUNCTION_FIRST, RULE_CONJUNCTION_TAIL_END, RULE_CONJUNCTION_TAIL_MORE, RULE_EXPRS_END, RULE_EXPRS_MORE, RULE_EXPR_FIRST, RULE_EXPR_TAIL_END, RULE_EXPR_TAIL_MORE, RULE_FIELDS_END, RULE_FIELDS_MORE, RULE_IN_BRACKET_INDEX, RULE_IN_BRACKET_SLICE, RULE_ITEMS_POINTERS, RULE_ITEMS_WORD, RULE_KEYED_END, RULE_KEYED_MORE, RULE_LITERAL_FIELDS, RULE_MAKE_REST_LENGTH, RULE_MAKE_REST_NONE, RULE_OPERATORS_TAILS, RULE_PARAMS_END, RULE_PARAMS_MORE, RULE_POINTED_NAME, RULE_POINTED_SYNC, RULE_PRIM_CLOSED, RULE_PRIM_NAME, RULE_PRIM_TAIL_BRACKET, RULE_PRIM_TAIL_END, RULE_PRIM_TAIL_MEMBER, RULE_PRODUCT_FIRST, RULE_PRODUCT_TAIL_END, RULE_PRODUCT_TAIL_MORE, RULE_SUM_FIRST, RULE_SUM_TAIL_END, RULE_SUM_TAIL_MORE, RULE_TEXTS_END, RULE_TEXTS_MORE, RULE_TYPE_OF_BLOCK, RULE_TYPE_OF_MAP, RULE_TYPE_OF_POINTER, RULE_TYPE_OF_SLICE, RULE_TYPE_OF_WORD, RULE_UNARY_PRIM, RULE_UNARY_SIGN, RULE_WHOLE_EXPR}
+use Rattle.gv_gosyntax.specs.declared.generated.gosyntax_table.TheConstants.{CLASS_AMP, CLASS_AND_AND, CLASS_BLOCK, CLASS_BYTE, CLASS_COLON, CLASS_COMMA, CLASS_DOT, CLASS_L_BRACE, CLASS_L_BRACKET, CLASS_L_PAREN, CLASS_MAKE, CLASS_MAP, CLASS_MUTEX, CLASS_NEW, CLASS_OR_OR, CLASS_R_BRACE, CLASS_R_BRACKET, CLASS_R_PAREN, CLASS_SEMI, CLASS_STAR, CLASS_SYNC, CLASS_TEXT, CLASS_UINT64, NAME_AFTER_EXPR, NAME_AFTER_FIELD, NAME_AFTER_KEYED, NAME_AFTER_PARAM, NAME_AFTER_SYNC, NAME_AFTER_TEXT, NAME_ARGUMENTS, NAME_BOUND, NAME_BRACKET, NAME_BUILT_IN, NAME_CLOSED, NAME_CLOSING, NAME_COMPARISON, NAME_COMPARISON_OPERATORS, NAME_COMPARISON_TAIL, NAME_CONJUNCTION, NAME_CONJUNCTION_OPERATORS, NAME_CONJUNCTION_TAIL, NAME_EXPR, NAME_EXPRS, NAME_EXPR_TAIL, NAME_FIELDS, NAME_IN_BRACKET, NAME_ITEMS, NAME_KEYED, NAME_LITERAL, NAME_MAKE_REST, NAME_OPERATORS, NAME_PARAMS, NAME_POINTED, NAME_PRIM_TAIL, NAME_PRODUCT, NAME_PRODUCT_OPERATORS, NAME_PRODUCT_TAIL, NAME_SUM, NAME_SUM_OPERATORS, NAME_SUM_TAIL, NAME_TEXTS, NAME_TYPE_OF, NAME_UNARY, NAME_WHOLE, RULE_AFTER_EXPR_END, RULE_AFTER_EXPR_MORE, RULE_AFTER_FIELD_END, RULE_AFTER_FIELD_MORE, RULE_AFTER_KEYED_END, RULE_AFTER_KEYED_MORE, RULE_AFTER_PARAM_END, RULE_AFTER_PARAM_MORE, RULE_AFTER_SYNC_MUTEX, RULE_AFTER_SYNC_NAME, RULE_AFTER_TEXT_END, RULE_AFTER_TEXT_MORE, RULE_ARGUMENTS_LIST, RULE_BOUND_NONE, RULE_BOUND_SOME, RULE_BRACKET_OPEN, RULE_BUILT_IN_MAKE, RULE_BUILT_IN_NEW, RULE_BUILT_IN_PAIR, RULE_CLOSED_CONSTANT, RULE_CLOSED_CONVERT, RULE_CLOSED_PAREN, RULE_CLOSING_INDEX, RULE_CLOSING_SLICE, RULE_COMPARISON_FIRST, RULE_COMPARISON_OPERATORS_COMPARISON, RULE_COMPARISON_OPERATORS_CONJUNCTION, RULE_COMPARISON_OPERATORS_END, RULE_COMPARISON_OPERATORS_EXPR, RULE_COMPARISON_TAIL_END, RULE_COMPARISON_TAIL_MORE, RULE_CONJUNCTION_FIRST, RULE_CONJUNCTION_OPERATORS_CONJUNCTION, RULE_CONJUNCTION_OPERATORS_END, RULE_CONJUNCTION_OPERATORS_EXPR, RULE_CONJUNCTION_TAIL_END, RULE_CONJUNCTION_TAIL_MORE, RULE_EXPRS_END, RULE_EXPRS_MORE, RULE_EXPR_FIRST, RULE_EXPR_TAIL_END, RULE_EXPR_TAIL_MORE, RULE_FIELDS_END, RULE_FIELDS_MORE, RULE_IN_BRACKET_INDEX, RULE_IN_BRACKET_SLICE, RULE_ITEMS_POINTERS, RULE_ITEMS_WORD, RULE_KEYED_END, RULE_KEYED_MORE, RULE_LITERAL_FIELDS, RULE_MAKE_REST_LENGTH, RULE_MAKE_REST_NONE, RULE_OPERATORS_TAILS, RULE_PARAMS_END, RULE_PARAMS_MORE, RULE_POINTED_NAME, RULE_POINTED_SYNC, RULE_PRIM_TAIL_BRACKET, RULE_PRIM_TAIL_END, RULE_PRIM_TAIL_MEMBER, RULE_PRODUCT_FIRST, RULE_PRODUCT_OPERATORS_COMPARISON, RULE_PRODUCT_OPERATORS_CONJUNCTION, RULE_PRODUCT_OPERATORS_END, RULE_PRODUCT_OPERATORS_EXPR, RULE_PRODUCT_OPERATORS_PRODUCT, RULE_PRODUCT_OPERATORS_SUM, RULE_PRODUCT_TAIL_END, RULE_PRODUCT_TAIL_MORE, RULE_SUM_FIRST, RULE_SUM_OPERATORS_COMPARISON, RULE_SUM_OPERATORS_CONJUNCTION, RULE_SUM_OPERATORS_END, RULE_SUM_OPERATORS_EXPR, RULE_SUM_OPERATORS_SUM, RULE_SUM_TAIL_END, RULE_SUM_TAIL_MORE, RULE_TEXTS_END, RULE_TEXTS_MORE, RULE_TYPE_OF_BLOCK, RULE_TYPE_OF_MAP, RULE_TYPE_OF_POINTER, RULE_TYPE_OF_SLICE, RULE_TYPE_OF_WORD, RULE_UNARY_CLOSED, RULE_UNARY_NAME, RULE_UNARY_SIGN, RULE_WHOLE_EXPR}
 use Rattle.gv_gosyntax.specs.declared.lexeme.Lexeme.{Lexeme}
 use Rattle.gv_gosyntax.specs.declared.tree.Expr.{Expr}
 use Rattle.gv_gosyntax.specs.declared.tree.Pointed.{Pointed}
@@ -16,7 +16,7 @@ use Rattle.gv_gosyntax.specs.declared.tree.Expr.TheVariants as expr
 use Rattle.gv_gosyntax.specs.declared.tree.GoType.TheVariants as type
 use Rattle.gv_gosyntax.specs.declared.tree.Call.TheVariants as call_tree
 use Rattle.gv_goparse.specs.Language.{Tokens, Is, AnyOf, other_names, names, IsList, IsPointed, IsType, IsExpr, IsBound, IsWhole, IsKeyed, IsCall, IsText, IsGroup, items, named, mutex, type_word, type_slice, type_pointers, type_map, type_pointer, type_block, constant, paren, convert, invert, prim, unary, times, product, plus, sum, compare, comparison, both, conjunction, either, unbound, bound, whole, keyed, pair, make, make_length, new, literal, one_text}
-use Rattle.gv_goparse.proofs.Meanings.{Prim, Unary, Product, Sum, Comparison, Conjunction, Expression, member_prim, place_prim, front_next, front_list, IsSlice, IsMaking, IsSync, Keeps, go_name, go_closed, go_dot, go_open, go_to, go_first, go_index, go_from, ends, end_here, alone_so, of_alone, slice_start, making, sync_start, fresh, behind}
+use Rattle.gv_goparse.proofs.Meanings.{Prim, Unary, Product, Sum, Comparison, Conjunction, Expression, member_prim, place_prim, front_next, front_list, IsSlice, IsMaking, IsSync, Keeps, go_name, go_closed, go_dot, go_open, go_to, go_first, go_index, go_from, go_on, ends, end_here, of_alone, slice_start, making, sync_start, fresh, behind}
 use Rattle.gv_goparse.proofs.SimpleRules.{member_call, go_bracket}
 
 pub arguments_list : Keeps RULE_ARGUMENTS_LIST NAME_ARGUMENTS
@@ -128,7 +128,7 @@ pub bound_none : Keeps RULE_BOUND_NONE NAME_BOUND
 bound_none _ (acted none) n = mk (IsBound n) None [] unbound refl
 
 pub expr_first : Keeps RULE_EXPR_FIRST NAME_EXPR
-expr_first _ (means {ts = ts} d (means {ts = vs} k none)) n = let a = d n in let e = a.same in at (simp (append-nil, e)) (k n a.tree a.placed (conjunction a.spelled))
+expr_first _ (means {ts = ts} d (means {ts = vs} k none)) n = let a = d n in let e = a.same in at (simp (append-nil, e)) (k n a.tree a.placed (unary a.spelled))
 
 pub expr_tail_more : Keeps RULE_EXPR_TAIL_MORE NAME_EXPR_TAIL
 expr_tail_more _ (acted (taken t i (means {ts = ts} d (acted (means {ts = vs} k none))))) n (x, m) xs h = let a = d (m + 1) in let e = a.same in at (simp (map-append, append_assoc, append-nil, e)) (k n (Binary x t a.tree.0, a.tree.1) (xs ++ (opens m t ∷ a.placed)) (either t h (one_class CLASS_OR_OR t.class i) a.spelled))
@@ -172,35 +172,75 @@ product_tail_more _ (acted (taken t i (means {ts = ts} d (acted (means {ts = vs}
 pub product_tail_end : Keeps RULE_PRODUCT_TAIL_END NAME_PRODUCT_TAIL
 product_tail_end _ none n x xs h = mk (Product n) x xs h (simp append-nil)
 
-pub all_tails : (ts us vs ws zs : List Lexeme) → Tail Product Product ts → Tail Sum Sum us → Tail Comparison Comparison vs → Tail Conjunction Conjunction ws → Tail Expression Expression zs
-    → Tail Unary Expression (ts ++ (us ++ (vs ++ (ws ++ (zs ++ [])))))
-all_tails ts us vs ws zs f g h i j n x ps d =
-    let a = f n x ps (unary d) in
-    let b = g n a.tree a.placed (product a.spelled) in
-    let c = h n b.tree b.placed (sum b.spelled) in
-    let e = i n c.tree c.placed (comparison c.spelled) in
-    let k = j n e.tree e.placed (conjunction e.spelled) in
-    let q1 = a.same in
-    let q2 = b.same in
-    let q3 = c.same in
-    let q4 = e.same in
-    let q5 = k.same in
-    mk (Expression n) k.tree k.placed k.spelled (simp (append_assoc, append-nil, q1, q2, q3, q4, q5))
-
 pub operators_tails : Keeps RULE_OPERATORS_TAILS NAME_OPERATORS
-operators_tails _ (means {ts = ts} a (means {ts = us} b (means {ts = vs} c (means {ts = ws} d (means {ts = xs'} e none))))) n x ps h = all_tails ts us vs ws xs' a b c d e n x ps h
+operators_tails _ (means {ts = ts} k none) = go_on ts (λ n x xs h. unary h) k
+
+pub product_operators_product : Keeps RULE_PRODUCT_OPERATORS_PRODUCT NAME_PRODUCT_OPERATORS
+product_operators_product _ (acted (taken t i (means {ts = ts} d (acted (means {ts = vs} k none))))) n (x, m) xs h = let a = d (m + 1) in let e = a.same in at (simp (map-append, append_assoc, append-nil, e)) (k n (Binary x t a.tree.0, a.tree.1) (xs ++ (opens m t ∷ a.placed)) (times t h i a.spelled))
+
+pub product_operators_sum : Keeps RULE_PRODUCT_OPERATORS_SUM NAME_PRODUCT_OPERATORS
+product_operators_sum _ (acted (taken t i (means {ts = ts} d (acted (means {ts = vs} k none))))) n (x, m) xs h = let a = d (m + 1) in let e = a.same in at (simp (map-append, append_assoc, append-nil, e)) (k n (Binary x t a.tree.0, a.tree.1) (xs ++ (opens m t ∷ a.placed)) (plus t (product h) i a.spelled))
+
+pub product_operators_comparison : Keeps RULE_PRODUCT_OPERATORS_COMPARISON NAME_PRODUCT_OPERATORS
+product_operators_comparison _ (acted (taken t i (means {ts = ts} d (acted (means {ts = vs} k none))))) n (x, m) xs h = let a = d (m + 1) in let e = a.same in at (simp (map-append, append_assoc, append-nil, e)) (k n (Binary x t a.tree.0, a.tree.1) (xs ++ (opens m t ∷ a.placed)) (compare t (sum (product h)) i a.spelled))
+
+pub product_operators_conjunction : Keeps RULE_PRODUCT_OPERATORS_CONJUNCTION NAME_PRODUCT_OPERATORS
+product_operators_conjunction _ (acted (taken t i (means {ts = ts} d (acted (means {ts = vs} k none))))) n (x, m) xs h = let a = d (m + 1) in let e = a.same in at (simp (map-append, append_assoc, append-nil, e)) (k n (Binary x t a.tree.0, a.tree.1) (xs ++ (opens m t ∷ a.placed)) (both t (comparison (sum (product h))) (one_class CLASS_AND_AND t.class i) a.spelled))
+
+pub product_operators_expr : Keeps RULE_PRODUCT_OPERATORS_EXPR NAME_PRODUCT_OPERATORS
+product_operators_expr _ (acted (taken t i (means {ts = ts} d (acted (means {ts = vs} k none))))) n (x, m) xs h = let a = d (m + 1) in let e = a.same in at (simp (map-append, append_assoc, append-nil, e)) (k n (Binary x t a.tree.0, a.tree.1) (xs ++ (opens m t ∷ a.placed)) (either t (conjunction (comparison (sum (product h)))) (one_class CLASS_OR_OR t.class i) a.spelled))
+
+pub product_operators_end : Keeps RULE_PRODUCT_OPERATORS_END NAME_PRODUCT_OPERATORS
+product_operators_end _ none n x xs h = mk (Expression n) x xs (conjunction (comparison (sum (product h)))) (simp append-nil)
+
+pub sum_operators_sum : Keeps RULE_SUM_OPERATORS_SUM NAME_SUM_OPERATORS
+sum_operators_sum _ (acted (taken t i (means {ts = ts} d (acted (means {ts = vs} k none))))) n (x, m) xs h = let a = d (m + 1) in let e = a.same in at (simp (map-append, append_assoc, append-nil, e)) (k n (Binary x t a.tree.0, a.tree.1) (xs ++ (opens m t ∷ a.placed)) (plus t h i a.spelled))
+
+pub sum_operators_comparison : Keeps RULE_SUM_OPERATORS_COMPARISON NAME_SUM_OPERATORS
+sum_operators_comparison _ (acted (taken t i (means {ts = ts} d (acted (means {ts = vs} k none))))) n (x, m) xs h = let a = d (m + 1) in let e = a.same in at (simp (map-append, append_assoc, append-nil, e)) (k n (Binary x t a.tree.0, a.tree.1) (xs ++ (opens m t ∷ a.placed)) (compare t (sum h) i a.spelled))
+
+pub sum_operators_conjunction : Keeps RULE_SUM_OPERATORS_CONJUNCTION NAME_SUM_OPERATORS
+sum_operators_conjunction _ (acted (taken t i (means {ts = ts} d (acted (means {ts = vs} k none))))) n (x, m) xs h = let a = d (m + 1) in let e = a.same in at (simp (map-append, append_assoc, append-nil, e)) (k n (Binary x t a.tree.0, a.tree.1) (xs ++ (opens m t ∷ a.placed)) (both t (comparison (sum h)) (one_class CLASS_AND_AND t.class i) a.spelled))
+
+pub sum_operators_expr : Keeps RULE_SUM_OPERATORS_EXPR NAME_SUM_OPERATORS
+sum_operators_expr _ (acted (taken t i (means {ts = ts} d (acted (means {ts = vs} k none))))) n (x, m) xs h = let a = d (m + 1) in let e = a.same in at (simp (map-append, append_assoc, append-nil, e)) (k n (Binary x t a.tree.0, a.tree.1) (xs ++ (opens m t ∷ a.placed)) (either t (conjunction (comparison (sum h))) (one_class CLASS_OR_OR t.class i) a.spelled))
+
+pub sum_operators_end : Keeps RULE_SUM_OPERATORS_END NAME_SUM_OPERATORS
+sum_operators_end _ none n x xs h = mk (Expression n) x xs (conjunction (comparison (sum h))) (simp append-nil)
+
+pub comparison_operators_comparison : Keeps RULE_COMPARISON_OPERATORS_COMPARISON NAME_COMPARISON_OPERATORS
+comparison_operators_comparison _ (acted (taken t i (means {ts = ts} d (acted (means {ts = vs} k none))))) n (x, m) xs h = let a = d (m + 1) in let e = a.same in at (simp (map-append, append_assoc, append-nil, e)) (k n (Binary x t a.tree.0, a.tree.1) (xs ++ (opens m t ∷ a.placed)) (compare t h i a.spelled))
+
+pub comparison_operators_conjunction : Keeps RULE_COMPARISON_OPERATORS_CONJUNCTION NAME_COMPARISON_OPERATORS
+comparison_operators_conjunction _ (acted (taken t i (means {ts = ts} d (acted (means {ts = vs} k none))))) n (x, m) xs h = let a = d (m + 1) in let e = a.same in at (simp (map-append, append_assoc, append-nil, e)) (k n (Binary x t a.tree.0, a.tree.1) (xs ++ (opens m t ∷ a.placed)) (both t (comparison h) (one_class CLASS_AND_AND t.class i) a.spelled))
+
+pub comparison_operators_expr : Keeps RULE_COMPARISON_OPERATORS_EXPR NAME_COMPARISON_OPERATORS
+comparison_operators_expr _ (acted (taken t i (means {ts = ts} d (acted (means {ts = vs} k none))))) n (x, m) xs h = let a = d (m + 1) in let e = a.same in at (simp (map-append, append_assoc, append-nil, e)) (k n (Binary x t a.tree.0, a.tree.1) (xs ++ (opens m t ∷ a.placed)) (either t (conjunction (comparison h)) (one_class CLASS_OR_OR t.class i) a.spelled))
+
+pub comparison_operators_end : Keeps RULE_COMPARISON_OPERATORS_END NAME_COMPARISON_OPERATORS
+comparison_operators_end _ none n x xs h = mk (Expression n) x xs (conjunction (comparison h)) (simp append-nil)
+
+pub conjunction_operators_conjunction : Keeps RULE_CONJUNCTION_OPERATORS_CONJUNCTION NAME_CONJUNCTION_OPERATORS
+conjunction_operators_conjunction _ (acted (taken t i (means {ts = ts} d (acted (means {ts = vs} k none))))) n (x, m) xs h = let a = d (m + 1) in let e = a.same in at (simp (map-append, append_assoc, append-nil, e)) (k n (Binary x t a.tree.0, a.tree.1) (xs ++ (opens m t ∷ a.placed)) (both t h (one_class CLASS_AND_AND t.class i) a.spelled))
+
+pub conjunction_operators_expr : Keeps RULE_CONJUNCTION_OPERATORS_EXPR NAME_CONJUNCTION_OPERATORS
+conjunction_operators_expr _ (acted (taken t i (means {ts = ts} d (acted (means {ts = vs} k none))))) n (x, m) xs h = let a = d (m + 1) in let e = a.same in at (simp (map-append, append_assoc, append-nil, e)) (k n (Binary x t a.tree.0, a.tree.1) (xs ++ (opens m t ∷ a.placed)) (either t (conjunction h) (one_class CLASS_OR_OR t.class i) a.spelled))
+
+pub conjunction_operators_end : Keeps RULE_CONJUNCTION_OPERATORS_END NAME_CONJUNCTION_OPERATORS
+conjunction_operators_end _ none n x xs h = mk (Expression n) x xs (conjunction h) (simp append-nil)
 
 pub unary_sign : Keeps RULE_UNARY_SIGN NAME_UNARY
 unary_sign _ (acted (taken t i (means {ts = ts} d (acted none)))) n = let a = d (n + 1) in let e = a.same in mk (Unary n) (expr.Unary t a.tree.0, a.tree.1) (opens n t ∷ a.placed) (invert t i a.spelled) (simp (append-nil, e))
 
-pub unary_prim : Keeps RULE_UNARY_PRIM NAME_UNARY
-unary_prim _ (means {ts = ts} d none) = alone_so Unary (λ x. x) ts (λ n x xs h. prim h) d
+-- an operand, where none of the signs stands before it
+pub unsigned : (us : List Lexeme) → Tail Prim Prim us → Tail Prim Unary us
+unsigned us k n x xs h = let a = k n x xs h in mk (Unary n) a.tree a.placed (prim a.spelled) a.same
 
-pub prim_name : Keeps RULE_PRIM_NAME NAME_PRIM
-prim_name _ (taken i h (acted (means {ts = ts} k none))) = go_name ts (λ n x xs a. k n x xs (member_prim (of_alone a))) i h
+pub unary_name : Keeps RULE_UNARY_NAME NAME_UNARY
+unary_name _ (taken i h (acted (means {ts = ts} k none))) = go_name ts (λ n x xs a. unsigned ts k n x xs (member_prim (of_alone a))) i h
 
-pub prim_closed : Keeps RULE_PRIM_CLOSED NAME_PRIM
-prim_closed _ (means {ts = ts} d (means {ts = vs} k none)) = go_closed ts vs d k
+pub unary_closed : Keeps RULE_UNARY_CLOSED NAME_UNARY
+unary_closed _ (means {ts = ts} d (means {ts = vs} k none)) = go_closed ts vs d (unsigned vs k)
 
 pub prim_tail_member : Keeps RULE_PRIM_TAIL_MEMBER NAME_PRIM_TAIL
 prim_tail_member _ (acted (taken d i (taken x j (acted (means {ts = ts} k none))))) = go_dot ts (λ n x xs h. k n x xs (member_prim h)) d x (one_class CLASS_DOT d.class i) j

@@ -265,8 +265,11 @@ meanings =
     ∷ Phrase Product  -- Product
     ∷ Tail Product Product  -- ProductTail
     ∷ Tail Unary Expression  -- Operators
+    ∷ Tail Product Expression  -- ProductOperators
+    ∷ Tail Sum Expression  -- SumOperators
+    ∷ Tail Comparison Expression  -- ComparisonOperators
+    ∷ Tail Conjunction Expression  -- ConjunctionOperators
     ∷ Phrase Unary  -- Unary
-    ∷ Phrase Prim  -- Prim
     ∷ Tail Prim Prim  -- PrimTail
     ∷ Phrase Prim  -- Closed
     ∷ Tail Prim Prim  -- Bracket

@@ -6,7 +6,7 @@ use Rattle.gv_grammar.specs.declared.levels.TheConstants.{OPEN, RESTORE}
 use Rattle.gv_grammar.specs.Building.{act_of}
 use Rattle.gv_grammar.specs.Text.{plain, opens}
 use Rattle.gv_grammar.proofs.Spelling.{Reading, Late, tk, tk_in, op, op_in, sv, rs, ac, ru}
-use Rattle.gv_gosyntax.specs.declared.generated.gosyntax_table.TheConstants.{ACT_BINARY, ACT_BOUND, ACT_CONSTANT, ACT_CONVERT, ACT_INDEX, ACT_NO_BOUND, ACT_OPERAND, ACT_PAREN, ACT_RIGHT, ACT_SELECT, ACT_SLICE_FROM, ACT_SLICE_TO, ACT_UNARY, ACT_VALUE, ACT_WHILE, CLASS_AND_AND, CLASS_COLON, CLASS_DOT, CLASS_L_BRACKET, CLASS_L_PAREN, CLASS_OR_OR, CLASS_R_BRACKET, CLASS_R_PAREN, NAME_BOUND, NAME_CLOSED, NAME_CLOSING, NAME_COMPARISON, NAME_COMPARISON_TAIL, NAME_CONJUNCTION, NAME_CONJUNCTION_TAIL, NAME_EXPR, NAME_EXPR_TAIL, NAME_FIRST_BRACKET, NAME_FIRST_CLOSING, NAME_FIRST_INDEX, NAME_FIRST_MEMBER, NAME_FIRST_NAME, NAME_FIRST_TAIL, NAME_HEADER, NAME_IN_BRACKET, NAME_LEFT, NAME_LEFT_BRACKET, NAME_LEFT_CLOSING, NAME_LEFT_END, NAME_LEFT_TAIL, NAME_LOOP_BRACES, NAME_MORE_RETURNED, NAME_OPERATORS, NAME_PLAIN_RIGHT, NAME_POST, NAME_POST_BRACKET, NAME_POST_CLOSING, NAME_POST_INDEX, NAME_POST_MEMBER, NAME_POST_NAME, NAME_POST_TAIL, NAME_PRIM, NAME_PRIM_TAIL, NAME_PRODUCT, NAME_PRODUCT_TAIL, NAME_RETURNED, NAME_RETURNED_MEMBER, NAME_RETURNED_TAIL, NAME_RIGHT_MEMBER, NAME_RIGHT_TAIL, NAME_SIMPLE, NAME_SIMPLE_BRACKET, NAME_SIMPLE_CLOSING, NAME_SIMPLE_INDEX, NAME_SIMPLE_MEMBER, NAME_SIMPLE_NAME, NAME_SIMPLE_TAIL, NAME_SUM, NAME_SUM_TAIL, NAME_UNARY, NAME_WHOLE, RULE_BOUND_NONE, RULE_BOUND_SOME, RULE_BRACKET_OPEN, RULE_CLOSED_CONSTANT, RULE_CLOSED_CONVERT, RULE_CLOSED_PAREN, RULE_CLOSING_INDEX, RULE_CLOSING_SLICE, RULE_COMPARISON_FIRST, RULE_COMPARISON_TAIL_END, RULE_COMPARISON_TAIL_MORE, RULE_CONJUNCTION_FIRST, RULE_CONJUNCTION_TAIL_END, RULE_CONJUNCTION_TAIL_MORE, RULE_EXPR_FIRST, RULE_EXPR_TAIL_END, RULE_EXPR_TAIL_MORE, RULE_FIRST_BRACKET_INDEX, RULE_FIRST_BRACKET_SLICE, RULE_FIRST_CLOSING_INDEX, RULE_FIRST_CLOSING_SLICE, RULE_FIRST_INDEX_MORE, RULE_FIRST_MEMBER_MORE, RULE_FIRST_NAME_MORE, RULE_FIRST_TAIL_BRACKET, RULE_FIRST_TAIL_MEMBER, RULE_FIRST_TAIL_VALUE, RULE_HEADER_CLOSED, RULE_HEADER_NAME, RULE_HEADER_SIGN, RULE_IN_BRACKET_INDEX, RULE_IN_BRACKET_SLICE, RULE_LEFT_BRACKET_INDEX, RULE_LEFT_BRACKET_SLICE, RULE_LEFT_CLOSED, RULE_LEFT_CLOSING_INDEX, RULE_LEFT_CLOSING_SLICE, RULE_LEFT_END_MORE, RULE_LEFT_NAME, RULE_LEFT_TAIL_BRACKET, RULE_LEFT_TAIL_MEMBER, RULE_OPERATORS_TAILS, RULE_PLAIN_RIGHT_CLOSED, RULE_PLAIN_RIGHT_NAME, RULE_PLAIN_RIGHT_SIGN, RULE_POST_BRACKET_INDEX, RULE_POST_BRACKET_SLICE, RULE_POST_CLOSED, RULE_POST_CLOSING_INDEX, RULE_POST_CLOSING_SLICE, RULE_POST_INDEX_MORE, RULE_POST_MEMBER_MORE, RULE_POST_NAME, RULE_POST_NAME_MORE, RULE_POST_TAIL_BRACKET, RULE_POST_TAIL_MEMBER, RULE_PRIM_CLOSED, RULE_PRIM_NAME, RULE_PRIM_TAIL_BRACKET, RULE_PRIM_TAIL_END, RULE_PRIM_TAIL_MEMBER, RULE_PRODUCT_FIRST, RULE_PRODUCT_TAIL_END, RULE_PRODUCT_TAIL_MORE, RULE_RETURNED_CLOSED, RULE_RETURNED_MEMBER_MORE, RULE_RETURNED_NAME, RULE_RETURNED_SIGN, RULE_RETURNED_TAIL_BRACKET, RULE_RETURNED_TAIL_MEMBER, RULE_RETURNED_TAIL_VALUE, RULE_RIGHT_MEMBER_MORE, RULE_RIGHT_TAIL_BRACKET, RULE_RIGHT_TAIL_MEMBER, RULE_RIGHT_TAIL_VALUE, RULE_SIMPLE_BRACKET_INDEX, RULE_SIMPLE_BRACKET_SLICE, RULE_SIMPLE_CLOSED, RULE_SIMPLE_CLOSING_INDEX, RULE_SIMPLE_CLOSING_SLICE, RULE_SIMPLE_INDEX_MORE, RULE_SIMPLE_MEMBER_MORE, RULE_SIMPLE_NAME, RULE_SIMPLE_NAME_MORE, RULE_SIMPLE_TAIL_BRACKET, RULE_SIMPLE_TAIL_MEMBER, RULE_SUM_FIRST, RULE_SUM_TAIL_END, RULE_SUM_TAIL_MORE, RULE_UNARY_PRIM, RULE_UNARY_SIGN, RULE_WHOLE_EXPR, SET_ADDING, SET_AND_AND, SET_COLON, SET_COMPARING, SET_CONSTANT, SET_CONVERTING, SET_DOT, SET_ID, SET_INVERTING, SET_L_BRACKET, SET_L_PAREN, SET_MULTIPLYING, SET_OR_OR, SET_R_BRACKET, SET_R_PAREN}
+use Rattle.gv_gosyntax.specs.declared.generated.gosyntax_table.TheConstants.{ACT_BINARY, ACT_BOUND, ACT_CONSTANT, ACT_CONVERT, ACT_INDEX, ACT_NO_BOUND, ACT_OPERAND, ACT_PAREN, ACT_RIGHT, ACT_SELECT, ACT_SLICE_FROM, ACT_SLICE_TO, ACT_UNARY, ACT_VALUE, ACT_WHILE, CLASS_AND_AND, CLASS_COLON, CLASS_DOT, CLASS_L_BRACKET, CLASS_L_PAREN, CLASS_OR_OR, CLASS_R_BRACKET, CLASS_R_PAREN, NAME_BOUND, NAME_CLOSED, NAME_CLOSING, NAME_COMPARISON, NAME_COMPARISON_OPERATORS, NAME_COMPARISON_TAIL, NAME_CONJUNCTION, NAME_CONJUNCTION_OPERATORS, NAME_CONJUNCTION_TAIL, NAME_EXPR, NAME_EXPR_TAIL, NAME_FIRST_BRACKET, NAME_FIRST_CLOSING, NAME_FIRST_INDEX, NAME_FIRST_MEMBER, NAME_FIRST_NAME, NAME_FIRST_TAIL, NAME_HEADER, NAME_IN_BRACKET, NAME_LEFT, NAME_LEFT_BRACKET, NAME_LEFT_CLOSING, NAME_LEFT_END, NAME_LEFT_TAIL, NAME_LOOP_BRACES, NAME_MORE_RETURNED, NAME_OPERATORS, NAME_PLAIN_RIGHT, NAME_POST, NAME_POST_BRACKET, NAME_POST_CLOSING, NAME_POST_INDEX, NAME_POST_MEMBER, NAME_POST_NAME, NAME_POST_TAIL, NAME_PRIM_TAIL, NAME_PRODUCT, NAME_PRODUCT_OPERATORS, NAME_PRODUCT_TAIL, NAME_RETURNED, NAME_RETURNED_MEMBER, NAME_RETURNED_TAIL, NAME_RIGHT_MEMBER, NAME_RIGHT_TAIL, NAME_SIMPLE, NAME_SIMPLE_BRACKET, NAME_SIMPLE_CLOSING, NAME_SIMPLE_INDEX, NAME_SIMPLE_MEMBER, NAME_SIMPLE_NAME, NAME_SIMPLE_TAIL, NAME_SUM, NAME_SUM_OPERATORS, NAME_SUM_TAIL, NAME_UNARY, NAME_WHOLE, RULE_BOUND_NONE, RULE_BOUND_SOME, RULE_BRACKET_OPEN, RULE_CLOSED_CONSTANT, RULE_CLOSED_CONVERT, RULE_CLOSED_PAREN, RULE_CLOSING_INDEX, RULE_CLOSING_SLICE, RULE_COMPARISON_FIRST, RULE_COMPARISON_OPERATORS_COMPARISON, RULE_COMPARISON_OPERATORS_CONJUNCTION, RULE_COMPARISON_OPERATORS_END, RULE_COMPARISON_OPERATORS_EXPR, RULE_COMPARISON_TAIL_END, RULE_COMPARISON_TAIL_MORE, RULE_CONJUNCTION_FIRST, RULE_CONJUNCTION_OPERATORS_CONJUNCTION, RULE_CONJUNCTION_OPERATORS_END, RULE_CONJUNCTION_OPERATORS_EXPR, RULE_CONJUNCTION_TAIL_END, RULE_CONJUNCTION_TAIL_MORE, RULE_EXPR_FIRST, RULE_EXPR_TAIL_END, RULE_EXPR_TAIL_MORE, RULE_FIRST_BRACKET_INDEX, RULE_FIRST_BRACKET_SLICE, RULE_FIRST_CLOSING_INDEX, RULE_FIRST_CLOSING_SLICE, RULE_FIRST_INDEX_MORE, RULE_FIRST_MEMBER_MORE, RULE_FIRST_NAME_MORE, RULE_FIRST_TAIL_BRACKET, RULE_FIRST_TAIL_MEMBER, RULE_FIRST_TAIL_VALUE, RULE_HEADER_CLOSED, RULE_HEADER_NAME, RULE_HEADER_SIGN, RULE_IN_BRACKET_INDEX, RULE_IN_BRACKET_SLICE, RULE_LEFT_BRACKET_INDEX, RULE_LEFT_BRACKET_SLICE, RULE_LEFT_CLOSED, RULE_LEFT_CLOSING_INDEX, RULE_LEFT_CLOSING_SLICE, RULE_LEFT_END_MORE, RULE_LEFT_NAME, RULE_LEFT_TAIL_BRACKET, RULE_LEFT_TAIL_MEMBER, RULE_OPERATORS_TAILS, RULE_PLAIN_RIGHT_CLOSED, RULE_PLAIN_RIGHT_NAME, RULE_PLAIN_RIGHT_SIGN, RULE_POST_BRACKET_INDEX, RULE_POST_BRACKET_SLICE, RULE_POST_CLOSED, RULE_POST_CLOSING_INDEX, RULE_POST_CLOSING_SLICE, RULE_POST_INDEX_MORE, RULE_POST_MEMBER_MORE, RULE_POST_NAME, RULE_POST_NAME_MORE, RULE_POST_TAIL_BRACKET, RULE_POST_TAIL_MEMBER, RULE_PRIM_TAIL_BRACKET, RULE_PRIM_TAIL_END, RULE_PRIM_TAIL_MEMBER, RULE_PRODUCT_FIRST, RULE_PRODUCT_OPERATORS_COMPARISON, RULE_PRODUCT_OPERATORS_CONJUNCTION, RULE_PRODUCT_OPERATORS_END, RULE_PRODUCT_OPERATORS_EXPR, RULE_PRODUCT_OPERATORS_PRODUCT, RULE_PRODUCT_OPERATORS_SUM, RULE_PRODUCT_TAIL_END, RULE_PRODUCT_TAIL_MORE, RULE_RETURNED_CLOSED, RULE_RETURNED_MEMBER_MORE, RULE_RETURNED_NAME, RULE_RETURNED_SIGN, RULE_RETURNED_TAIL_BRACKET, RULE_RETURNED_TAIL_MEMBER, RULE_RETURNED_TAIL_VALUE, RULE_RIGHT_MEMBER_MORE, RULE_RIGHT_TAIL_BRACKET, RULE_RIGHT_TAIL_MEMBER, RULE_RIGHT_TAIL_VALUE, RULE_SIMPLE_BRACKET_INDEX, RULE_SIMPLE_BRACKET_SLICE, RULE_SIMPLE_CLOSED, RULE_SIMPLE_CLOSING_INDEX, RULE_SIMPLE_CLOSING_SLICE, RULE_SIMPLE_INDEX_MORE, RULE_SIMPLE_MEMBER_MORE, RULE_SIMPLE_NAME, RULE_SIMPLE_NAME_MORE, RULE_SIMPLE_TAIL_BRACKET, RULE_SIMPLE_TAIL_MEMBER, RULE_SUM_FIRST, RULE_SUM_OPERATORS_COMPARISON, RULE_SUM_OPERATORS_CONJUNCTION, RULE_SUM_OPERATORS_END, RULE_SUM_OPERATORS_EXPR, RULE_SUM_OPERATORS_SUM, RULE_SUM_TAIL_END, RULE_SUM_TAIL_MORE, RULE_UNARY_CLOSED, RULE_UNARY_NAME, RULE_UNARY_SIGN, RULE_WHOLE_EXPR, SET_ADDING, SET_AND_AND, SET_COLON, SET_COMPARING, SET_CONSTANT, SET_CONVERTING, SET_DOT, SET_ID, SET_INVERTING, SET_L_BRACKET, SET_L_PAREN, SET_MULTIPLYING, SET_OR_OR, SET_R_BRACKET, SET_R_PAREN}
 use Rattle.gv_gosyntax.specs.declared.generated.gosyntax_acts.Part.{Part}
 use Rattle.gv_gosyntax.specs.declared.generated.gosyntax_acts.Part.TheVariants.{Token as PToken, Expr as PExpr, Bound as PBound}
 use Rattle.gv_gosyntax.specs.declared.tree.Expr.{Expr}
@@ -82,10 +82,10 @@ on_prim_on member_shape s us n kept parts final k = k
 on_prim_on item_shape s us n kept parts final k = k
 on_prim_on other_shape s us n kept parts final k = k
 
-pub on_prim : Place NAME_PRIM NAME_PRIM_TAIL NAME_PRIM_TAIL NAME_PRIM_TAIL NAME_PRIM_TAIL (N NAME_IN_BRACKET ∷ N NAME_PRIM_TAIL ∷ []) (N NAME_CLOSING ∷ N NAME_PRIM_TAIL ∷ [])
+pub on_prim : Place NAME_UNARY NAME_PRIM_TAIL NAME_PRIM_TAIL NAME_PRIM_TAIL NAME_PRIM_TAIL (N NAME_IN_BRACKET ∷ N NAME_PRIM_TAIL ∷ []) (N NAME_CLOSING ∷ N NAME_PRIM_TAIL ∷ [])
 on_prim = record {
-  by_name = λ s us n kept parts final k. ru RULE_PRIM_NAME refl k;
-  by_closed = λ s us n kept parts final k. ru RULE_PRIM_CLOSED refl k;
+  by_name = λ s us n kept parts final k. ru RULE_UNARY_NAME refl k;
+  by_closed = λ s us n kept parts final k. ru RULE_UNARY_CLOSED refl k;
   on = on_prim_on;
   by_dot = λ s us n kept parts final k. ru RULE_PRIM_TAIL_MEMBER refl k;
   by_bracket = λ s us n kept parts final k. ru RULE_PRIM_TAIL_BRACKET refl (ru RULE_BRACKET_OPEN refl k);
@@ -215,6 +215,71 @@ in_header = record {
   to_slice = λ s us n kept parts final k. ru RULE_FIRST_CLOSING_SLICE refl k;
 }
 
+-- What may follow a sum, a comparison, a conjunction or an expression: the same behind each name that may stand there, since what is
+-- looser ends all that is tighter.
+pub record BehindSum (s : List Symbol) (us : Tokens) (n : ℕ) (kept : List ℕ) (parts : Parts) (final : Option Parts) : Type 0 where
+  pub by_product : Read (N NAME_PRODUCT_OPERATORS ∷ s) us n kept parts final
+  pub by_sum : Read (N NAME_SUM_OPERATORS ∷ s) us n kept parts final
+
+pub record BehindComparison (s : List Symbol) (us : Tokens) (n : ℕ) (kept : List ℕ) (parts : Parts) (final : Option Parts) : Type 0 where
+  pub as_sum : BehindSum s us n kept parts final
+  pub by_comparison : Read (N NAME_COMPARISON_OPERATORS ∷ s) us n kept parts final
+
+pub record BehindConjunction (s : List Symbol) (us : Tokens) (n : ℕ) (kept : List ℕ) (parts : Parts) (final : Option Parts) : Type 0 where
+  pub as_comparison : BehindComparison s us n kept parts final
+  pub by_conjunction : Read (N NAME_CONJUNCTION_OPERATORS ∷ s) us n kept parts final
+
+pub record BehindExpr (s : List Symbol) (us : Tokens) (n : ℕ) (kept : List ℕ) (parts : Parts) (final : Option Parts) : Type 0 where
+  pub as_conjunction : BehindConjunction s us n kept parts final
+  pub by_expr : Read (N NAME_EXPR_TAIL ∷ s) us n kept parts final
+
+-- an operator of each level, with its right operand, and the end
+pub by_adding : {s : List Symbol} {us : Tokens} {n : ℕ} {kept : List ℕ} {parts : Parts} {final : Option Parts}
+    → Read (A OPEN ∷ T SET_ADDING ∷ N NAME_PRODUCT ∷ A ACT_BINARY ∷ N NAME_SUM_OPERATORS ∷ s) us n kept parts final → BehindSum s us n kept parts final
+by_adding k = record { by_product = ru RULE_PRODUCT_OPERATORS_SUM refl k; by_sum = ru RULE_SUM_OPERATORS_SUM refl k }
+
+pub by_comparing : {s : List Symbol} {us : Tokens} {n : ℕ} {kept : List ℕ} {parts : Parts} {final : Option Parts}
+    → Read (A OPEN ∷ T SET_COMPARING ∷ N NAME_SUM ∷ A ACT_BINARY ∷ N NAME_COMPARISON_OPERATORS ∷ s) us n kept parts final → BehindComparison s us n kept parts final
+by_comparing k = record {
+  as_sum = record { by_product = ru RULE_PRODUCT_OPERATORS_COMPARISON refl k; by_sum = ru RULE_SUM_OPERATORS_COMPARISON refl k };
+  by_comparison = ru RULE_COMPARISON_OPERATORS_COMPARISON refl k;
+}
+
+pub by_and : {s : List Symbol} {us : Tokens} {n : ℕ} {kept : List ℕ} {parts : Parts} {final : Option Parts}
+    → Read (A OPEN ∷ T SET_AND_AND ∷ N NAME_COMPARISON ∷ A ACT_BINARY ∷ N NAME_CONJUNCTION_OPERATORS ∷ s) us n kept parts final → BehindConjunction s us n kept parts final
+by_and k = record {
+  as_comparison = record {
+    as_sum = record { by_product = ru RULE_PRODUCT_OPERATORS_CONJUNCTION refl k; by_sum = ru RULE_SUM_OPERATORS_CONJUNCTION refl k };
+    by_comparison = ru RULE_COMPARISON_OPERATORS_CONJUNCTION refl k;
+  };
+  by_conjunction = ru RULE_CONJUNCTION_OPERATORS_CONJUNCTION refl k;
+}
+
+pub by_or : {s : List Symbol} {us : Tokens} {n : ℕ} {kept : List ℕ} {parts : Parts} {final : Option Parts}
+    → Read (A OPEN ∷ T SET_OR_OR ∷ N NAME_CONJUNCTION ∷ A ACT_BINARY ∷ N NAME_EXPR_TAIL ∷ s) us n kept parts final → BehindExpr s us n kept parts final
+by_or k = record {
+  as_conjunction = record {
+    as_comparison = record {
+      as_sum = record { by_product = ru RULE_PRODUCT_OPERATORS_EXPR refl k; by_sum = ru RULE_SUM_OPERATORS_EXPR refl k };
+      by_comparison = ru RULE_COMPARISON_OPERATORS_EXPR refl k;
+    };
+    by_conjunction = ru RULE_CONJUNCTION_OPERATORS_EXPR refl k;
+  };
+  by_expr = ru RULE_EXPR_TAIL_MORE refl k;
+}
+
+pub at_end : {s : List Symbol} {us : Tokens} {n : ℕ} {kept : List ℕ} {parts : Parts} {final : Option Parts} → Read s us n kept parts final → BehindExpr s us n kept parts final
+at_end k = record {
+  as_conjunction = record {
+    as_comparison = record {
+      as_sum = record { by_product = ru RULE_PRODUCT_OPERATORS_END refl k; by_sum = ru RULE_SUM_OPERATORS_END refl k };
+      by_comparison = ru RULE_COMPARISON_OPERATORS_END refl k;
+    };
+    by_conjunction = ru RULE_CONJUNCTION_OPERATORS_END refl k;
+  };
+  by_expr = ru RULE_EXPR_TAIL_END refl k;
+}
+
 mutual
   -- an operand, where any place of the grammar begins with one
   pub prim_reads : {start alone member indexed tail : ℕ} {bracket closing : List Symbol} → Place start alone member indexed tail bracket closing → {n m : ℕ} {e : Expr} {ts : Tokens} (d : IsPrim n e m ts) → {s : List Symbol} {us : Tokens} {kept : List ℕ} {parts : Parts} {final : Option Parts}
@@ -223,26 +288,26 @@ mutual
   prim_reads p (name t i) k = p.by_name _ _ _ _ _ _ (tk_in SET_ID i (ac ACT_OPERAND refl k))
   prim_reads p (paren {n = n} o c {ts = ts} i d j) {us = us} k =
       p.by_closed _ _ _ _ _ _ (ru RULE_CLOSED_PAREN refl (sv (op SET_L_PAREN CLASS_L_PAREN i refl
-      (to (ts ++ (plain c ∷ us)) (simp append_assoc) (expr_reads d (ru RULE_EXPR_TAIL_END refl (tk SET_R_PAREN CLASS_R_PAREN j refl (rs (ac ACT_PAREN refl k)))))))))
+      (to (ts ++ (plain c ∷ us)) (simp append_assoc) (expr_opens d (at_end (tk SET_R_PAREN CLASS_R_PAREN j refl (rs (ac ACT_PAREN refl k)))))))))
   prim_reads p (convert {n = n} w o c {ts = ts} h i d j) {us = us} k =
       p.by_closed _ _ _ _ _ _ (ru RULE_CLOSED_CONVERT refl (tk_in SET_CONVERTING h (sv (op SET_L_PAREN CLASS_L_PAREN i refl
-      (to (ts ++ (plain c ∷ us)) (simp append_assoc) (expr_reads d (ru RULE_EXPR_TAIL_END refl (tk SET_R_PAREN CLASS_R_PAREN j refl (rs (ac ACT_CONVERT refl k))))))))))
+      (to (ts ++ (plain c ∷ us)) (simp append_assoc) (expr_opens d (at_end (tk SET_R_PAREN CLASS_R_PAREN j refl (rs (ac ACT_CONVERT refl k))))))))))
   prim_reads p (select {m = m} d x {e = e} {ts = ts} q i j) {us = us} k =
       to (ts ++ (opens m d ∷ plain x ∷ us)) (simp append_assoc) (prim_reads p q (p.on (shape_of q) _ _ _ _ _ _ (p.by_dot _ _ _ _ _ _ (op SET_DOT CLASS_DOT i refl (tk_in SET_ID j (ac ACT_SELECT refl k))))))
   prim_reads p (index {m = m} o c {e = e} {ts = ts} {us = vs} q i d j) {us = us} k =
       to (ts ++ (opens m o ∷ (vs ++ (plain c ∷ us)))) (simp append_assoc) (prim_reads p q (p.on (shape_of q) _ _ _ _ _ _ (p.by_bracket _ _ _ _ _ _ (op SET_L_BRACKET CLASS_L_BRACKET i refl
-      (p.from_index _ _ _ _ _ _ (ru RULE_WHOLE_EXPR refl (sv (expr_reads d (ru RULE_EXPR_TAIL_END refl (rs (p.to_index _ _ _ _ _ _ (tk SET_R_BRACKET CLASS_R_BRACKET j refl (ac ACT_INDEX refl k)))))))))))))
+      (p.from_index _ _ _ _ _ _ (ru RULE_WHOLE_EXPR refl (sv (expr_opens d (at_end (rs (p.to_index _ _ _ _ _ _ (tk SET_R_BRACKET CLASS_R_BRACKET j refl (ac ACT_INDEX refl k)))))))))))))
   prim_reads p (slice {m = m} o d c {e = e} {ts = ts} {vs = ws} q i unbound h b j) {us = us} k =
       to (ts ++ (opens m o ∷ plain d ∷ (ws ++ (plain c ∷ us)))) (simp append_assoc) (prim_reads p q (p.on (shape_of q) _ _ _ _ _ _ (p.by_bracket _ _ _ _ _ _ (op SET_L_BRACKET CLASS_L_BRACKET i refl
       (p.from_slice _ _ _ _ _ _ (tk SET_COLON CLASS_COLON h refl (bound_reads b (tk SET_R_BRACKET CLASS_R_BRACKET j refl (ac ACT_SLICE_TO refl k)))))))))
   prim_reads p (slice {m = m} o d c {e = e} {ts = ts} {us = vs} {vs = ws} q i (bound l) h b j) {us = us} k =
       to (ts ++ (opens m o ∷ (vs ++ (plain d ∷ (ws ++ (plain c ∷ us)))))) (simp append_assoc) (prim_reads p q (p.on (shape_of q) _ _ _ _ _ _ (p.by_bracket _ _ _ _ _ _ (op SET_L_BRACKET CLASS_L_BRACKET i refl
-      (p.from_index _ _ _ _ _ _ (ru RULE_WHOLE_EXPR refl (sv (expr_reads l (ru RULE_EXPR_TAIL_END refl (rs (p.to_slice _ _ _ _ _ _ (tk SET_COLON CLASS_COLON h refl (bound_reads b (tk SET_R_BRACKET CLASS_R_BRACKET j refl (ac ACT_SLICE_FROM refl k)))))))))))))))
+      (p.from_index _ _ _ _ _ _ (ru RULE_WHOLE_EXPR refl (sv (expr_opens l (at_end (rs (p.to_slice _ _ _ _ _ _ (tk SET_COLON CLASS_COLON h refl (bound_reads b (tk SET_R_BRACKET CLASS_R_BRACKET j refl (ac ACT_SLICE_FROM refl k)))))))))))))))
 
   pub unary_reads : {n m : ℕ} {e : Expr} {ts : Tokens} → IsUnary n e m ts → {s : List Symbol} {us : Tokens} {kept : List ℕ} {parts : Parts} {final : Option Parts}
       → Read (s) us m kept (PExpr e ∷ parts) final → Read (N NAME_UNARY ∷ s) (ts ++ us) n kept parts final
   unary_reads (invert t i d) k = ru RULE_UNARY_SIGN refl (op_in SET_INVERTING i (unary_reads d (ac ACT_UNARY refl k)))
-  unary_reads (prim d) k = ru RULE_UNARY_PRIM refl (prim_reads on_prim d (on_prim_on (shape_of d) _ _ _ _ _ _ (ru RULE_PRIM_TAIL_END refl k)))
+  unary_reads (prim d) k = prim_reads on_prim d (on_prim_on (shape_of d) _ _ _ _ _ _ (ru RULE_PRIM_TAIL_END refl k))
 
   pub product_reads : {n m : ℕ} {e : Expr} {ts : Tokens} → IsProduct n e m ts → {s : List Symbol} {us : Tokens} {kept : List ℕ} {parts : Parts} {final : Option Parts}
       → Read (N NAME_PRODUCT_TAIL ∷ s) us m kept (PExpr e ∷ parts) final → Read (N NAME_PRODUCT ∷ s) (ts ++ us) n kept parts final
@@ -264,19 +329,44 @@ mutual
   conjunction_reads (comparison d) k = ru RULE_CONJUNCTION_FIRST refl (comparison_reads d (ru RULE_COMPARISON_TAIL_END refl k))
   conjunction_reads (both {m = m} t {ts = ts} {us = vs} d i e) {us = us} k = to (ts ++ (opens m t ∷ (vs ++ us))) (simp append_assoc) (conjunction_reads d (ru RULE_CONJUNCTION_TAIL_MORE refl (op SET_AND_AND CLASS_AND_AND i refl (comparison_reads e (ru RULE_COMPARISON_TAIL_END refl (ac ACT_BINARY refl k))))))
 
-  pub expr_reads : {n m : ℕ} {e : Expr} {ts : Tokens} → IsExpr n e m ts → {s : List Symbol} {us : Tokens} {kept : List ℕ} {parts : Parts} {final : Option Parts}
-      → Read (N NAME_EXPR_TAIL ∷ s) us m kept (PExpr e ∷ parts) final → Read (N NAME_EXPR ∷ s) (ts ++ us) n kept parts final
-  expr_reads (conjunction d) k = ru RULE_EXPR_FIRST refl (conjunction_reads d (ru RULE_CONJUNCTION_TAIL_END refl k))
-  expr_reads (either {m = m} t {ts = ts} {us = vs} d i e) {us = us} k = to (ts ++ (opens m t ∷ (vs ++ us))) (simp append_assoc) (expr_reads d (ru RULE_EXPR_TAIL_MORE refl (op SET_OR_OR CLASS_OR_OR i refl (conjunction_reads e (ru RULE_CONJUNCTION_TAIL_END refl (ac ACT_BINARY refl k))))))
+  -- an expression, by the operators that follow its first operand
+  pub product_opens : {n m : ℕ} {e : Expr} {ts : Tokens} → IsProduct n e m ts → {s : List Symbol} {us : Tokens} {kept : List ℕ} {parts : Parts} {final : Option Parts}
+      → Read (N NAME_PRODUCT_OPERATORS ∷ s) us m kept (PExpr e ∷ parts) final → Read (N NAME_EXPR ∷ s) (ts ++ us) n kept parts final
+  product_opens (unary d) k = ru RULE_EXPR_FIRST refl (unary_reads d k)
+  product_opens (times {m = m} t {ts = ts} {us = vs} d i e) {us = us} k = to (ts ++ (opens m t ∷ (vs ++ us))) (simp append_assoc) (product_opens d (ru RULE_PRODUCT_OPERATORS_PRODUCT refl (op_in SET_MULTIPLYING i (unary_reads e (ac ACT_BINARY refl k)))))
+
+  pub sum_opens : {n m : ℕ} {e : Expr} {ts : Tokens} → IsSum n e m ts → {s : List Symbol} {us : Tokens} {kept : List ℕ} {parts : Parts} {final : Option Parts}
+      → BehindSum s us m kept (PExpr e ∷ parts) final → Read (N NAME_EXPR ∷ s) (ts ++ us) n kept parts final
+  sum_opens (product d) k = product_opens d k.by_product
+  sum_opens (plus {m = m} t {ts = ts} {us = vs} d i e) {us = us} k = to (ts ++ (opens m t ∷ (vs ++ us))) (simp append_assoc) (sum_opens d (by_adding (op_in SET_ADDING i (product_reads e (ru RULE_PRODUCT_TAIL_END refl (ac ACT_BINARY refl k.by_sum))))))
+
+  pub comparison_opens : {n m : ℕ} {e : Expr} {ts : Tokens} → IsComparison n e m ts → {s : List Symbol} {us : Tokens} {kept : List ℕ} {parts : Parts} {final : Option Parts}
+      → BehindComparison s us m kept (PExpr e ∷ parts) final → Read (N NAME_EXPR ∷ s) (ts ++ us) n kept parts final
+  comparison_opens (sum d) k = sum_opens d k.as_sum
+  comparison_opens (compare {m = m} t {ts = ts} {us = vs} d i e) {us = us} k = to (ts ++ (opens m t ∷ (vs ++ us))) (simp append_assoc) (comparison_opens d (by_comparing (op_in SET_COMPARING i (sum_reads e (ru RULE_SUM_TAIL_END refl (ac ACT_BINARY refl k.by_comparison))))))
+
+  pub conjunction_opens : {n m : ℕ} {e : Expr} {ts : Tokens} → IsConjunction n e m ts → {s : List Symbol} {us : Tokens} {kept : List ℕ} {parts : Parts} {final : Option Parts}
+      → BehindConjunction s us m kept (PExpr e ∷ parts) final → Read (N NAME_EXPR ∷ s) (ts ++ us) n kept parts final
+  conjunction_opens (comparison d) k = comparison_opens d k.as_comparison
+  conjunction_opens (both {m = m} t {ts = ts} {us = vs} d i e) {us = us} k = to (ts ++ (opens m t ∷ (vs ++ us))) (simp append_assoc) (conjunction_opens d (by_and (op SET_AND_AND CLASS_AND_AND i refl (comparison_reads e (ru RULE_COMPARISON_TAIL_END refl (ac ACT_BINARY refl k.by_conjunction))))))
+
+  pub expr_opens : {n m : ℕ} {e : Expr} {ts : Tokens} → IsExpr n e m ts → {s : List Symbol} {us : Tokens} {kept : List ℕ} {parts : Parts} {final : Option Parts}
+      → BehindExpr s us m kept (PExpr e ∷ parts) final → Read (N NAME_EXPR ∷ s) (ts ++ us) n kept parts final
+  expr_opens (conjunction d) k = conjunction_opens d k.as_conjunction
+  expr_opens (either {m = m} t {ts = ts} {us = vs} d i e) {us = us} k = to (ts ++ (opens m t ∷ (vs ++ us))) (simp append_assoc) (expr_opens d (by_or (op SET_OR_OR CLASS_OR_OR i refl (conjunction_reads e (ru RULE_CONJUNCTION_TAIL_END refl (ac ACT_BINARY refl k.by_expr))))))
 
   pub bound_reads : {n : ℕ} {b : Option Expr} {ts : Tokens} → IsBound n b ts → {s : List Symbol} {us : Tokens} {kept : List ℕ} {parts : Parts} {final : Option Parts}
       → Read s us n kept (PBound b ∷ parts) final → Read (N NAME_BOUND ∷ s) (ts ++ us) n kept parts final
   bound_reads unbound k = ru RULE_BOUND_NONE refl (ac ACT_NO_BOUND refl k)
-  bound_reads (bound d) k = ru RULE_BOUND_SOME refl (ru RULE_WHOLE_EXPR refl (sv (expr_reads d (ru RULE_EXPR_TAIL_END refl (rs (ac ACT_BOUND refl k))))))
+  bound_reads (bound d) k = ru RULE_BOUND_SOME refl (ru RULE_WHOLE_EXPR refl (sv (expr_opens d (at_end (rs (ac ACT_BOUND refl k))))))
+
+pub expr_reads : {n m : ℕ} {e : Expr} {ts : Tokens} → IsExpr n e m ts → {s : List Symbol} {us : Tokens} {kept : List ℕ} {parts : Parts} {final : Option Parts}
+    → Read s us m kept (PExpr e ∷ parts) final → Read (N NAME_EXPR ∷ s) (ts ++ us) n kept parts final
+expr_reads d k = expr_opens d (at_end k)
 
 pub whole_expr : {n m : ℕ} {e : Expr} {ts : Tokens} → IsExpr n e m ts → {s : List Symbol} {us : Tokens} {kept : List ℕ} {parts : Parts} {final : Option Parts}
     → Read s us n kept (PExpr e ∷ parts) final → Read (N NAME_WHOLE ∷ s) (ts ++ us) n kept parts final
-whole_expr d k = ru RULE_WHOLE_EXPR refl (sv (expr_reads d (ru RULE_EXPR_TAIL_END refl (rs k))))
+whole_expr d k = ru RULE_WHOLE_EXPR refl (sv (expr_reads d (rs k)))
 
 pub whole_reads : {n : ℕ} {e : Expr} {ts : Tokens} → IsWhole n e ts → {s : List Symbol} {us : Tokens} {kept : List ℕ} {parts : Parts} {final : Option Parts}
     → Read s us n kept (PExpr e ∷ parts) final → Read (N NAME_WHOLE ∷ s) (ts ++ us) n kept parts final
@@ -313,26 +403,30 @@ unary_at p q (invert t i d) k = q.by_sign _ _ _ _ _ _ (op_in SET_INVERTING i (un
 unary_at p q (prim d) k = prim_reads p d (p.on (shape_of d) _ _ _ _ _ _ (q.by_value _ _ _ _ _ _ k))
 
 pub product_at : {start alone member indexed tail : ℕ} {bracket closing after : List Symbol} → Place start alone member indexed tail bracket closing → Values start tail after → {n m : ℕ} {e : Expr} {ts : Tokens} → IsProduct n e m ts → {s : List Symbol} {us : Tokens} {kept : List ℕ} {parts : Parts} {final : Option Parts}
-    → Read (N NAME_PRODUCT_TAIL ∷ N NAME_SUM_TAIL ∷ N NAME_COMPARISON_TAIL ∷ N NAME_CONJUNCTION_TAIL ∷ N NAME_EXPR_TAIL ∷ after ++ s) us m kept (PExpr e ∷ parts) final → Read (N start ∷ s) (ts ++ us) n kept parts final
+    → Read (N NAME_PRODUCT_OPERATORS ∷ after ++ s) us m kept (PExpr e ∷ parts) final → Read (N start ∷ s) (ts ++ us) n kept parts final
 product_at p q (unary d) k = unary_at p q d (ru RULE_OPERATORS_TAILS refl k)
-product_at p q (times {m = m} t {ts = ts} {us = vs} d i e) {us = us} k = to (ts ++ (opens m t ∷ (vs ++ us))) (simp append_assoc) (product_at p q d (ru RULE_PRODUCT_TAIL_MORE refl (op_in SET_MULTIPLYING i (unary_reads e (ac ACT_BINARY refl k)))))
+product_at p q (times {m = m} t {ts = ts} {us = vs} d i e) {us = us} k = to (ts ++ (opens m t ∷ (vs ++ us))) (simp append_assoc) (product_at p q d (ru RULE_PRODUCT_OPERATORS_PRODUCT refl (op_in SET_MULTIPLYING i (unary_reads e (ac ACT_BINARY refl k)))))
 
 pub sum_at : {start alone member indexed tail : ℕ} {bracket closing after : List Symbol} → Place start alone member indexed tail bracket closing → Values start tail after → {n m : ℕ} {e : Expr} {ts : Tokens} → IsSum n e m ts → {s : List Symbol} {us : Tokens} {kept : List ℕ} {parts : Parts} {final : Option Parts}
-    → Read (N NAME_SUM_TAIL ∷ N NAME_COMPARISON_TAIL ∷ N NAME_CONJUNCTION_TAIL ∷ N NAME_EXPR_TAIL ∷ after ++ s) us m kept (PExpr e ∷ parts) final → Read (N start ∷ s) (ts ++ us) n kept parts final
-sum_at p q (product d) k = product_at p q d (ru RULE_PRODUCT_TAIL_END refl k)
-sum_at p q (plus {m = m} t {ts = ts} {us = vs} d i e) {us = us} k = to (ts ++ (opens m t ∷ (vs ++ us))) (simp append_assoc) (sum_at p q d (ru RULE_SUM_TAIL_MORE refl (op_in SET_ADDING i (product_reads e (ru RULE_PRODUCT_TAIL_END refl (ac ACT_BINARY refl k))))))
+    → BehindSum (after ++ s) us m kept (PExpr e ∷ parts) final → Read (N start ∷ s) (ts ++ us) n kept parts final
+sum_at p q (product d) k = product_at p q d k.by_product
+sum_at p q (plus {m = m} t {ts = ts} {us = vs} d i e) {us = us} k = to (ts ++ (opens m t ∷ (vs ++ us))) (simp append_assoc) (sum_at p q d (by_adding (op_in SET_ADDING i (product_reads e (ru RULE_PRODUCT_TAIL_END refl (ac ACT_BINARY refl k.by_sum))))))
 
 pub comparison_at : {start alone member indexed tail : ℕ} {bracket closing after : List Symbol} → Place start alone member indexed tail bracket closing → Values start tail after → {n m : ℕ} {e : Expr} {ts : Tokens} → IsComparison n e m ts → {s : List Symbol} {us : Tokens} {kept : List ℕ} {parts : Parts} {final : Option Parts}
-    → Read (N NAME_COMPARISON_TAIL ∷ N NAME_CONJUNCTION_TAIL ∷ N NAME_EXPR_TAIL ∷ after ++ s) us m kept (PExpr e ∷ parts) final → Read (N start ∷ s) (ts ++ us) n kept parts final
-comparison_at p q (sum d) k = sum_at p q d (ru RULE_SUM_TAIL_END refl k)
-comparison_at p q (compare {m = m} t {ts = ts} {us = vs} d i e) {us = us} k = to (ts ++ (opens m t ∷ (vs ++ us))) (simp append_assoc) (comparison_at p q d (ru RULE_COMPARISON_TAIL_MORE refl (op_in SET_COMPARING i (sum_reads e (ru RULE_SUM_TAIL_END refl (ac ACT_BINARY refl k))))))
+    → BehindComparison (after ++ s) us m kept (PExpr e ∷ parts) final → Read (N start ∷ s) (ts ++ us) n kept parts final
+comparison_at p q (sum d) k = sum_at p q d k.as_sum
+comparison_at p q (compare {m = m} t {ts = ts} {us = vs} d i e) {us = us} k = to (ts ++ (opens m t ∷ (vs ++ us))) (simp append_assoc) (comparison_at p q d (by_comparing (op_in SET_COMPARING i (sum_reads e (ru RULE_SUM_TAIL_END refl (ac ACT_BINARY refl k.by_comparison))))))
 
 pub conjunction_at : {start alone member indexed tail : ℕ} {bracket closing after : List Symbol} → Place start alone member indexed tail bracket closing → Values start tail after → {n m : ℕ} {e : Expr} {ts : Tokens} → IsConjunction n e m ts → {s : List Symbol} {us : Tokens} {kept : List ℕ} {parts : Parts} {final : Option Parts}
-    → Read (N NAME_CONJUNCTION_TAIL ∷ N NAME_EXPR_TAIL ∷ after ++ s) us m kept (PExpr e ∷ parts) final → Read (N start ∷ s) (ts ++ us) n kept parts final
-conjunction_at p q (comparison d) k = comparison_at p q d (ru RULE_COMPARISON_TAIL_END refl k)
-conjunction_at p q (both {m = m} t {ts = ts} {us = vs} d i e) {us = us} k = to (ts ++ (opens m t ∷ (vs ++ us))) (simp append_assoc) (conjunction_at p q d (ru RULE_CONJUNCTION_TAIL_MORE refl (op SET_AND_AND CLASS_AND_AND i refl (comparison_reads e (ru RULE_COMPARISON_TAIL_END refl (ac ACT_BINARY refl k))))))
+    → BehindConjunction (after ++ s) us m kept (PExpr e ∷ parts) final → Read (N start ∷ s) (ts ++ us) n kept parts final
+conjunction_at p q (comparison d) k = comparison_at p q d k.as_comparison
+conjunction_at p q (both {m = m} t {ts = ts} {us = vs} d i e) {us = us} k = to (ts ++ (opens m t ∷ (vs ++ us))) (simp append_assoc) (conjunction_at p q d (by_and (op SET_AND_AND CLASS_AND_AND i refl (comparison_reads e (ru RULE_COMPARISON_TAIL_END refl (ac ACT_BINARY refl k.by_conjunction))))))
+
+pub expr_from : {start alone member indexed tail : ℕ} {bracket closing after : List Symbol} → Place start alone member indexed tail bracket closing → Values start tail after → {n m : ℕ} {e : Expr} {ts : Tokens} → IsExpr n e m ts → {s : List Symbol} {us : Tokens} {kept : List ℕ} {parts : Parts} {final : Option Parts}
+    → BehindExpr (after ++ s) us m kept (PExpr e ∷ parts) final → Read (N start ∷ s) (ts ++ us) n kept parts final
+expr_from p q (conjunction d) k = conjunction_at p q d k.as_conjunction
+expr_from p q (either {m = m} t {ts = ts} {us = vs} d i e) {us = us} k = to (ts ++ (opens m t ∷ (vs ++ us))) (simp append_assoc) (expr_from p q d (by_or (op SET_OR_OR CLASS_OR_OR i refl (conjunction_reads e (ru RULE_CONJUNCTION_TAIL_END refl (ac ACT_BINARY refl k.by_expr))))))
 
 pub expr_at : {start alone member indexed tail : ℕ} {bracket closing after : List Symbol} → Place start alone member indexed tail bracket closing → Values start tail after → {n m : ℕ} {e : Expr} {ts : Tokens} → IsExpr n e m ts → {s : List Symbol} {us : Tokens} {kept : List ℕ} {parts : Parts} {final : Option Parts}
-    → Read (N NAME_EXPR_TAIL ∷ after ++ s) us m kept (PExpr e ∷ parts) final → Read (N start ∷ s) (ts ++ us) n kept parts final
-expr_at p q (conjunction d) k = conjunction_at p q d (ru RULE_CONJUNCTION_TAIL_END refl k)
-expr_at p q (either {m = m} t {ts = ts} {us = vs} d i e) {us = us} k = to (ts ++ (opens m t ∷ (vs ++ us))) (simp append_assoc) (expr_at p q d (ru RULE_EXPR_TAIL_MORE refl (op SET_OR_OR CLASS_OR_OR i refl (conjunction_reads e (ru RULE_CONJUNCTION_TAIL_END refl (ac ACT_BINARY refl k))))))
+    → Read (after ++ s) us m kept (PExpr e ∷ parts) final → Read (N start ∷ s) (ts ++ us) n kept parts final
+expr_at p q d k = expr_from p q d (at_end k)

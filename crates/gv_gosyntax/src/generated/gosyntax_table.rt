@@ -464,19 +464,25 @@ pub const NAME_PRODUCT_TAIL: u8 = 96;
 
 pub const NAME_OPERATORS: u8 = 97;
 
-pub const NAME_UNARY: u8 = 98;
+pub const NAME_PRODUCT_OPERATORS: u8 = 98;
 
-pub const NAME_PRIM: u8 = 99;
+pub const NAME_SUM_OPERATORS: u8 = 99;
 
-pub const NAME_PRIM_TAIL: u8 = 100;
+pub const NAME_COMPARISON_OPERATORS: u8 = 100;
 
-pub const NAME_CLOSED: u8 = 101;
+pub const NAME_CONJUNCTION_OPERATORS: u8 = 101;
 
-pub const NAME_BRACKET: u8 = 102;
+pub const NAME_UNARY: u8 = 102;
 
-pub const NAME_IN_BRACKET: u8 = 103;
+pub const NAME_PRIM_TAIL: u8 = 103;
 
-pub const NAME_CLOSING: u8 = 104;
+pub const NAME_CLOSED: u8 = 104;
+
+pub const NAME_BRACKET: u8 = 105;
+
+pub const NAME_IN_BRACKET: u8 = 106;
+
+pub const NAME_CLOSING: u8 = 107;
 
 pub const ACT_NO_NAMES: u8 = 4;
 
@@ -1066,39 +1072,73 @@ pub const RULE_PRODUCT_TAIL_END: u16 = 210;
 
 pub const RULE_OPERATORS_TAILS: u16 = 211;
 
-pub const RULE_UNARY_SIGN: u16 = 212;
+pub const RULE_PRODUCT_OPERATORS_PRODUCT: u16 = 212;
 
-pub const RULE_UNARY_PRIM: u16 = 213;
+pub const RULE_PRODUCT_OPERATORS_SUM: u16 = 213;
 
-pub const RULE_PRIM_NAME: u16 = 214;
+pub const RULE_PRODUCT_OPERATORS_COMPARISON: u16 = 214;
 
-pub const RULE_PRIM_CLOSED: u16 = 215;
+pub const RULE_PRODUCT_OPERATORS_CONJUNCTION: u16 = 215;
 
-pub const RULE_PRIM_TAIL_MEMBER: u16 = 216;
+pub const RULE_PRODUCT_OPERATORS_EXPR: u16 = 216;
 
-pub const RULE_PRIM_TAIL_BRACKET: u16 = 217;
+pub const RULE_PRODUCT_OPERATORS_END: u16 = 217;
 
-pub const RULE_PRIM_TAIL_END: u16 = 218;
+pub const RULE_SUM_OPERATORS_SUM: u16 = 218;
 
-pub const RULE_CLOSED_CONSTANT: u16 = 219;
+pub const RULE_SUM_OPERATORS_COMPARISON: u16 = 219;
 
-pub const RULE_CLOSED_PAREN: u16 = 220;
+pub const RULE_SUM_OPERATORS_CONJUNCTION: u16 = 220;
 
-pub const RULE_CLOSED_CONVERT: u16 = 221;
+pub const RULE_SUM_OPERATORS_EXPR: u16 = 221;
 
-pub const RULE_BRACKET_OPEN: u16 = 222;
+pub const RULE_SUM_OPERATORS_END: u16 = 222;
 
-pub const RULE_IN_BRACKET_SLICE: u16 = 223;
+pub const RULE_COMPARISON_OPERATORS_COMPARISON: u16 = 223;
 
-pub const RULE_IN_BRACKET_INDEX: u16 = 224;
+pub const RULE_COMPARISON_OPERATORS_CONJUNCTION: u16 = 224;
 
-pub const RULE_CLOSING_INDEX: u16 = 225;
+pub const RULE_COMPARISON_OPERATORS_EXPR: u16 = 225;
 
-pub const RULE_CLOSING_SLICE: u16 = 226;
+pub const RULE_COMPARISON_OPERATORS_END: u16 = 226;
+
+pub const RULE_CONJUNCTION_OPERATORS_CONJUNCTION: u16 = 227;
+
+pub const RULE_CONJUNCTION_OPERATORS_EXPR: u16 = 228;
+
+pub const RULE_CONJUNCTION_OPERATORS_END: u16 = 229;
+
+pub const RULE_UNARY_SIGN: u16 = 230;
+
+pub const RULE_UNARY_NAME: u16 = 231;
+
+pub const RULE_UNARY_CLOSED: u16 = 232;
+
+pub const RULE_PRIM_TAIL_MEMBER: u16 = 233;
+
+pub const RULE_PRIM_TAIL_BRACKET: u16 = 234;
+
+pub const RULE_PRIM_TAIL_END: u16 = 235;
+
+pub const RULE_CLOSED_CONSTANT: u16 = 236;
+
+pub const RULE_CLOSED_PAREN: u16 = 237;
+
+pub const RULE_CLOSED_CONVERT: u16 = 238;
+
+pub const RULE_BRACKET_OPEN: u16 = 239;
+
+pub const RULE_IN_BRACKET_SLICE: u16 = 240;
+
+pub const RULE_IN_BRACKET_INDEX: u16 = 241;
+
+pub const RULE_CLOSING_INDEX: u16 = 242;
+
+pub const RULE_CLOSING_SLICE: u16 = 243;
 
 pub static ROOTS: [u8; 1] = [0];
 
-pub static NAMES: [u8; 227] = [
+pub static NAMES: [u8; 244] = [
     0, 1, 1, 2, 2, 3, 3, 4, 4, 5, 5, 6, 6, 6, 7, 7, 8, 8, 9, 9, 10, 10, 11, 11, 12, 12, 13, 14, 14,
     15, 15, 15, 16, 16, 17, 17, 17, 17, 17, 18, 18, 19, 19, 20, 20, 21, 22, 22, 22, 23, 23, 24, 24,
     24, 25, 26, 26, 27, 27, 28, 29, 29, 29, 30, 30, 31, 31, 31, 31, 32, 33, 33, 34, 34, 35, 35, 35,
@@ -1107,11 +1147,12 @@ pub static NAMES: [u8; 227] = [
     54, 54, 55, 55, 56, 56, 57, 57, 57, 58, 58, 59, 59, 60, 60, 61, 62, 63, 63, 64, 64, 65, 65, 66,
     66, 67, 67, 68, 68, 69, 69, 70, 70, 70, 70, 71, 71, 72, 72, 72, 73, 73, 73, 73, 73, 73, 74, 74,
     75, 75, 75, 76, 76, 77, 78, 78, 79, 79, 80, 80, 80, 81, 81, 82, 83, 83, 84, 84, 85, 86, 86, 87,
-    88, 88, 89, 90, 90, 91, 92, 92, 93, 94, 94, 95, 96, 96, 97, 98, 98, 99, 99, 100, 100, 100, 101,
-    101, 101, 102, 103, 103, 104, 104,
+    88, 88, 89, 90, 90, 91, 92, 92, 93, 94, 94, 95, 96, 96, 97, 98, 98, 98, 98, 98, 98, 99, 99, 99,
+    99, 99, 100, 100, 100, 100, 101, 101, 101, 102, 102, 102, 103, 103, 103, 104, 104, 104, 105,
+    106, 106, 107, 107,
 ];
 
-pub static STARTS: [u16; 228] = [
+pub static STARTS: [u16; 245] = [
     0, 8, 13, 13, 16, 24, 27, 27, 30, 30, 34, 34, 42, 45, 59, 63, 66, 75, 76, 78, 78, 81, 81, 83,
     83, 86, 86, 92, 97, 97, 99, 109, 109, 114, 114, 116, 119, 125, 128, 132, 134, 137, 139, 141,
     144, 145, 153, 156, 159, 159, 162, 162, 163, 167, 169, 172, 174, 175, 178, 182, 190, 193, 196,
@@ -1122,11 +1163,12 @@ pub static STARTS: [u16; 228] = [
     444, 456, 459, 465, 469, 470, 473, 475, 476, 476, 481, 484, 489, 491, 494, 499, 501, 502, 508,
     510, 513, 515, 517, 518, 523, 525, 527, 529, 534, 539, 548, 551, 553, 558, 559, 564, 566, 571,
     577, 578, 586, 589, 589, 592, 592, 602, 608, 618, 623, 626, 633, 638, 638, 641, 641, 644, 646,
-    647, 649, 654, 654, 656, 661, 661, 663, 668, 668, 670, 675, 675, 677, 682, 682, 687, 691, 692,
-    695, 697, 702, 704, 704, 706, 713, 721, 724, 728, 730, 732, 736,
+    647, 649, 654, 654, 656, 661, 661, 663, 668, 668, 670, 675, 675, 677, 682, 682, 683, 688, 693,
+    698, 703, 708, 708, 713, 718, 723, 728, 728, 733, 738, 743, 743, 748, 753, 753, 757, 760, 762,
+    767, 769, 769, 771, 778, 786, 789, 793, 795, 797, 801,
 ];
 
-pub static SYMBOLS: [Symbol; 736] = [
+pub static SYMBOLS: [Symbol; 801] = [
     // File/whole = Package Id Semi {NO_IMPORTS} Imports {NO_DECLS} Decls {FILE}
     Symbol::Token(SET_PACKAGE),
     Symbol::Token(SET_ID),
@@ -1970,9 +2012,9 @@ pub static SYMBOLS: [Symbol; 736] = [
     Symbol::Act(ACT_BOUND),
     // Bound/none = {NO_BOUND}
     Symbol::Act(ACT_NO_BOUND),
-    // Expr/first = Conjunction ExprTail
-    Symbol::Name(NAME_CONJUNCTION),
-    Symbol::Name(NAME_EXPR_TAIL),
+    // Expr/first = Unary ProductOperators
+    Symbol::Name(NAME_UNARY),
+    Symbol::Name(NAME_PRODUCT_OPERATORS),
     // ExprTail/more = {OPEN} OrOr Conjunction {BINARY} ExprTail
     Symbol::Act(OPEN),
     Symbol::Token(SET_OR_OR),
@@ -2020,24 +2062,106 @@ pub static SYMBOLS: [Symbol; 736] = [
     Symbol::Act(ACT_BINARY),
     Symbol::Name(NAME_PRODUCT_TAIL),
     // ProductTail/end =
-    // Operators/tails = ProductTail SumTail ComparisonTail ConjunctionTail ExprTail
-    Symbol::Name(NAME_PRODUCT_TAIL),
-    Symbol::Name(NAME_SUM_TAIL),
-    Symbol::Name(NAME_COMPARISON_TAIL),
-    Symbol::Name(NAME_CONJUNCTION_TAIL),
+    // Operators/tails = ProductOperators
+    Symbol::Name(NAME_PRODUCT_OPERATORS),
+    // ProductOperators/product = {OPEN} Multiplying Unary {BINARY} ProductOperators
+    Symbol::Act(OPEN),
+    Symbol::Token(SET_MULTIPLYING),
+    Symbol::Name(NAME_UNARY),
+    Symbol::Act(ACT_BINARY),
+    Symbol::Name(NAME_PRODUCT_OPERATORS),
+    // ProductOperators/sum = {OPEN} Adding Product {BINARY} SumOperators
+    Symbol::Act(OPEN),
+    Symbol::Token(SET_ADDING),
+    Symbol::Name(NAME_PRODUCT),
+    Symbol::Act(ACT_BINARY),
+    Symbol::Name(NAME_SUM_OPERATORS),
+    // ProductOperators/comparison = {OPEN} Comparing Sum {BINARY} ComparisonOperators
+    Symbol::Act(OPEN),
+    Symbol::Token(SET_COMPARING),
+    Symbol::Name(NAME_SUM),
+    Symbol::Act(ACT_BINARY),
+    Symbol::Name(NAME_COMPARISON_OPERATORS),
+    // ProductOperators/conjunction = {OPEN} AndAnd Comparison {BINARY} ConjunctionOperators
+    Symbol::Act(OPEN),
+    Symbol::Token(SET_AND_AND),
+    Symbol::Name(NAME_COMPARISON),
+    Symbol::Act(ACT_BINARY),
+    Symbol::Name(NAME_CONJUNCTION_OPERATORS),
+    // ProductOperators/expr = {OPEN} OrOr Conjunction {BINARY} ExprTail
+    Symbol::Act(OPEN),
+    Symbol::Token(SET_OR_OR),
+    Symbol::Name(NAME_CONJUNCTION),
+    Symbol::Act(ACT_BINARY),
     Symbol::Name(NAME_EXPR_TAIL),
+    // ProductOperators/end =
+    // SumOperators/sum = {OPEN} Adding Product {BINARY} SumOperators
+    Symbol::Act(OPEN),
+    Symbol::Token(SET_ADDING),
+    Symbol::Name(NAME_PRODUCT),
+    Symbol::Act(ACT_BINARY),
+    Symbol::Name(NAME_SUM_OPERATORS),
+    // SumOperators/comparison = {OPEN} Comparing Sum {BINARY} ComparisonOperators
+    Symbol::Act(OPEN),
+    Symbol::Token(SET_COMPARING),
+    Symbol::Name(NAME_SUM),
+    Symbol::Act(ACT_BINARY),
+    Symbol::Name(NAME_COMPARISON_OPERATORS),
+    // SumOperators/conjunction = {OPEN} AndAnd Comparison {BINARY} ConjunctionOperators
+    Symbol::Act(OPEN),
+    Symbol::Token(SET_AND_AND),
+    Symbol::Name(NAME_COMPARISON),
+    Symbol::Act(ACT_BINARY),
+    Symbol::Name(NAME_CONJUNCTION_OPERATORS),
+    // SumOperators/expr = {OPEN} OrOr Conjunction {BINARY} ExprTail
+    Symbol::Act(OPEN),
+    Symbol::Token(SET_OR_OR),
+    Symbol::Name(NAME_CONJUNCTION),
+    Symbol::Act(ACT_BINARY),
+    Symbol::Name(NAME_EXPR_TAIL),
+    // SumOperators/end =
+    // ComparisonOperators/comparison = {OPEN} Comparing Sum {BINARY} ComparisonOperators
+    Symbol::Act(OPEN),
+    Symbol::Token(SET_COMPARING),
+    Symbol::Name(NAME_SUM),
+    Symbol::Act(ACT_BINARY),
+    Symbol::Name(NAME_COMPARISON_OPERATORS),
+    // ComparisonOperators/conjunction = {OPEN} AndAnd Comparison {BINARY} ConjunctionOperators
+    Symbol::Act(OPEN),
+    Symbol::Token(SET_AND_AND),
+    Symbol::Name(NAME_COMPARISON),
+    Symbol::Act(ACT_BINARY),
+    Symbol::Name(NAME_CONJUNCTION_OPERATORS),
+    // ComparisonOperators/expr = {OPEN} OrOr Conjunction {BINARY} ExprTail
+    Symbol::Act(OPEN),
+    Symbol::Token(SET_OR_OR),
+    Symbol::Name(NAME_CONJUNCTION),
+    Symbol::Act(ACT_BINARY),
+    Symbol::Name(NAME_EXPR_TAIL),
+    // ComparisonOperators/end =
+    // ConjunctionOperators/conjunction = {OPEN} AndAnd Comparison {BINARY} ConjunctionOperators
+    Symbol::Act(OPEN),
+    Symbol::Token(SET_AND_AND),
+    Symbol::Name(NAME_COMPARISON),
+    Symbol::Act(ACT_BINARY),
+    Symbol::Name(NAME_CONJUNCTION_OPERATORS),
+    // ConjunctionOperators/expr = {OPEN} OrOr Conjunction {BINARY} ExprTail
+    Symbol::Act(OPEN),
+    Symbol::Token(SET_OR_OR),
+    Symbol::Name(NAME_CONJUNCTION),
+    Symbol::Act(ACT_BINARY),
+    Symbol::Name(NAME_EXPR_TAIL),
+    // ConjunctionOperators/end =
     // Unary/sign = {OPEN} Inverting Unary {UNARY}
     Symbol::Act(OPEN),
     Symbol::Token(SET_INVERTING),
     Symbol::Name(NAME_UNARY),
     Symbol::Act(ACT_UNARY),
-    // Unary/prim = Prim
-    Symbol::Name(NAME_PRIM),
-    // Prim/name = Id {OPERAND} PrimTail
+    // Unary/name = Id {OPERAND} PrimTail
     Symbol::Token(SET_ID),
     Symbol::Act(ACT_OPERAND),
     Symbol::Name(NAME_PRIM_TAIL),
-    // Prim/closed = Closed PrimTail
+    // Unary/closed = Closed PrimTail
     Symbol::Name(NAME_CLOSED),
     Symbol::Name(NAME_PRIM_TAIL),
     // PrimTail/member = {OPEN} Dot Id {SELECT} PrimTail
@@ -2105,7 +2229,7 @@ pub static SET_STARTS: [u16; 52] = [
     95, 96, 97, 98,
 ];
 
-pub static TABLE: [u16; 8505] = [
+pub static TABLE: [u16; 8748] = [
     0, 1, 0, 0, 0, 0, 0, 0, 0, 0, 0, 0, 0, 0, 0, 0, 0, 0, 0, 0, 0, 0, 0, 0, 0, 0, 0, 0, 0, 0, 0, 0,
     0, 0, 0, 0, 0, 0, 0, 0, 0, 0, 0, 0, 0, 0, 0, 0, 0, 0, 0, 0, 0, 0, 0, 0, 0, 0, 0, 0, 0, 0, 0, 0,
     0, 0, 0, 0, 0, 0, 0, 0, 0, 0, 0, 0, 0, 0, 0, 0, 0, 3, 0, 2, 3, 0, 3, 3, 0, 0, 0, 0, 0, 0, 0, 0,
@@ -2375,26 +2499,35 @@ pub static TABLE: [u16; 8505] = [
     0, 0, 0, 0, 0, 0, 0, 0, 0, 0, 0, 0, 0, 0, 0, 0, 0, 0, 0, 0, 0, 0, 0, 0, 0, 0, 0, 0, 0, 0, 0, 0,
     0, 212, 0, 0, 0, 0, 212, 212, 212, 0, 0, 0, 0, 0, 0, 212, 212, 212, 212, 212, 212, 212, 212,
     212, 212, 212, 212, 212, 212, 212, 212, 212, 212, 212, 0, 0, 0, 0, 0, 0, 0, 0, 0, 0, 0, 0, 0,
-    0, 0, 0, 0, 0, 0, 0, 0, 0, 0, 0, 0, 0, 0, 0, 0, 214, 214, 0, 214, 214, 214, 0, 0, 214, 0, 0,
-    214, 214, 214, 214, 214, 214, 214, 0, 0, 214, 0, 0, 0, 0, 0, 0, 0, 0, 0, 0, 0, 0, 0, 0, 0, 0,
-    0, 0, 0, 0, 0, 0, 0, 213, 0, 0, 0, 0, 0, 0, 0, 213, 0, 0, 0, 0, 0, 0, 0, 0, 0, 0, 0, 0, 0, 0,
-    0, 0, 0, 0, 0, 0, 0, 0, 0, 0, 0, 0, 0, 0, 216, 216, 0, 216, 216, 216, 0, 0, 216, 0, 0, 215,
-    215, 215, 215, 215, 215, 216, 0, 0, 216, 0, 0, 0, 0, 0, 0, 0, 0, 0, 0, 0, 0, 0, 0, 0, 0, 0, 0,
     0, 0, 0, 0, 0, 0, 0, 0, 0, 0, 0, 0, 0, 0, 0, 0, 0, 0, 0, 0, 0, 0, 0, 0, 0, 0, 0, 0, 0, 0, 0, 0,
-    0, 0, 0, 0, 0, 0, 0, 0, 0, 0, 0, 0, 0, 0, 0, 0, 0, 0, 0, 0, 0, 0, 0, 0, 0, 0, 0, 0, 0, 219, 0,
-    219, 218, 219, 219, 219, 219, 217, 219, 0, 0, 0, 0, 219, 219, 219, 219, 219, 219, 219, 219,
-    219, 219, 219, 219, 219, 219, 219, 219, 219, 219, 219, 0, 0, 0, 0, 0, 0, 0, 0, 0, 0, 0, 0, 0,
-    0, 0, 0, 0, 0, 0, 0, 0, 0, 0, 0, 0, 0, 0, 0, 0, 222, 222, 0, 220, 220, 220, 0, 0, 222, 0, 0, 0,
-    0, 0, 0, 0, 0, 220, 0, 0, 221, 0, 0, 0, 0, 0, 0, 0, 0, 0, 0, 0, 0, 0, 0, 0, 0, 0, 0, 0, 0, 0,
+    0, 0, 0, 218, 0, 218, 0, 218, 218, 218, 218, 0, 218, 0, 0, 0, 0, 217, 216, 215, 215, 215, 215,
+    215, 215, 214, 214, 214, 214, 213, 213, 213, 213, 213, 213, 213, 0, 0, 0, 0, 0, 0, 0, 0, 0, 0,
     0, 0, 0, 0, 0, 0, 0, 0, 0, 0, 0, 0, 0, 0, 0, 0, 0, 0, 0, 0, 0, 0, 0, 0, 0, 0, 0, 0, 0, 0, 0, 0,
-    0, 0, 0, 0, 0, 0, 0, 0, 0, 0, 0, 0, 0, 0, 0, 0, 0, 0, 0, 0, 0, 0, 0, 0, 0, 0, 0, 0, 0, 223, 0,
+    0, 0, 0, 0, 0, 0, 223, 0, 223, 0, 223, 223, 223, 223, 0, 223, 0, 0, 0, 0, 222, 221, 220, 220,
+    220, 220, 220, 220, 219, 219, 219, 219, 0, 0, 0, 0, 0, 0, 0, 0, 0, 0, 0, 0, 0, 0, 0, 0, 0, 0,
     0, 0, 0, 0, 0, 0, 0, 0, 0, 0, 0, 0, 0, 0, 0, 0, 0, 0, 0, 0, 0, 0, 0, 0, 0, 0, 0, 0, 0, 0, 0, 0,
-    0, 0, 0, 0, 0, 0, 0, 0, 0, 0, 0, 0, 0, 0, 0, 0, 0, 0, 0, 0, 0, 0, 0, 0, 0, 225, 225, 0, 225,
-    225, 225, 0, 0, 225, 0, 0, 225, 225, 225, 225, 225, 225, 225, 0, 0, 225, 0, 0, 0, 0, 0, 0, 0,
-    224, 0, 0, 0, 0, 0, 0, 0, 0, 0, 0, 0, 0, 0, 0, 0, 225, 0, 0, 0, 0, 0, 0, 0, 225, 0, 0, 0, 0, 0,
+    0, 0, 0, 0, 0, 227, 0, 227, 0, 227, 227, 227, 227, 0, 227, 0, 0, 0, 0, 226, 225, 224, 224, 224,
+    224, 224, 224, 0, 0, 0, 0, 0, 0, 0, 0, 0, 0, 0, 0, 0, 0, 0, 0, 0, 0, 0, 0, 0, 0, 0, 0, 0, 0, 0,
     0, 0, 0, 0, 0, 0, 0, 0, 0, 0, 0, 0, 0, 0, 0, 0, 0, 0, 0, 0, 0, 0, 0, 0, 0, 0, 0, 0, 0, 0, 0, 0,
-    0, 0, 0, 0, 0, 0, 0, 0, 0, 0, 0, 0, 0, 0, 226, 0, 0, 0, 0, 227, 0, 0, 0, 0, 0, 0, 0, 0, 0, 0,
-    0, 0, 0, 0, 0, 0, 0, 0, 0, 0, 0, 0, 0, 0, 0, 0, 0, 0, 0, 0, 0, 0, 0, 0, 0, 0,
+    230, 0, 230, 0, 230, 230, 230, 230, 0, 230, 0, 0, 0, 0, 229, 228, 0, 0, 0, 0, 0, 0, 0, 0, 0, 0,
+    0, 0, 0, 0, 0, 0, 0, 0, 0, 0, 0, 0, 0, 0, 0, 0, 0, 0, 0, 0, 0, 0, 0, 0, 0, 0, 0, 0, 0, 0, 0, 0,
+    0, 0, 0, 0, 233, 233, 0, 233, 233, 233, 0, 0, 233, 0, 0, 232, 232, 232, 232, 232, 232, 233, 0,
+    0, 233, 0, 0, 0, 0, 0, 0, 0, 0, 0, 0, 0, 0, 0, 0, 0, 0, 0, 0, 0, 0, 0, 0, 0, 231, 0, 0, 0, 0,
+    0, 0, 0, 231, 0, 0, 0, 0, 0, 0, 0, 0, 0, 0, 0, 0, 0, 0, 0, 0, 0, 0, 0, 0, 0, 0, 0, 0, 0, 0, 0,
+    0, 0, 0, 0, 0, 0, 0, 0, 0, 0, 0, 0, 0, 0, 0, 0, 0, 0, 0, 0, 236, 0, 236, 235, 236, 236, 236,
+    236, 234, 236, 0, 0, 0, 0, 236, 236, 236, 236, 236, 236, 236, 236, 236, 236, 236, 236, 236,
+    236, 236, 236, 236, 236, 236, 0, 0, 0, 0, 0, 0, 0, 0, 0, 0, 0, 0, 0, 0, 0, 0, 0, 0, 0, 0, 0, 0,
+    0, 0, 0, 0, 0, 0, 0, 239, 239, 0, 237, 237, 237, 0, 0, 239, 0, 0, 0, 0, 0, 0, 0, 0, 237, 0, 0,
+    238, 0, 0, 0, 0, 0, 0, 0, 0, 0, 0, 0, 0, 0, 0, 0, 0, 0, 0, 0, 0, 0, 0, 0, 0, 0, 0, 0, 0, 0, 0,
+    0, 0, 0, 0, 0, 0, 0, 0, 0, 0, 0, 0, 0, 0, 0, 0, 0, 0, 0, 0, 0, 0, 0, 0, 0, 0, 0, 0, 0, 0, 0, 0,
+    0, 0, 0, 0, 0, 0, 0, 0, 0, 0, 0, 0, 0, 0, 0, 0, 0, 0, 0, 0, 240, 0, 0, 0, 0, 0, 0, 0, 0, 0, 0,
+    0, 0, 0, 0, 0, 0, 0, 0, 0, 0, 0, 0, 0, 0, 0, 0, 0, 0, 0, 0, 0, 0, 0, 0, 0, 0, 0, 0, 0, 0, 0, 0,
+    0, 0, 0, 0, 0, 0, 0, 0, 0, 0, 0, 0, 0, 0, 0, 0, 242, 242, 0, 242, 242, 242, 0, 0, 242, 0, 0,
+    242, 242, 242, 242, 242, 242, 242, 0, 0, 242, 0, 0, 0, 0, 0, 0, 0, 241, 0, 0, 0, 0, 0, 0, 0, 0,
+    0, 0, 0, 0, 0, 0, 0, 242, 0, 0, 0, 0, 0, 0, 0, 242, 0, 0, 0, 0, 0, 0, 0, 0, 0, 0, 0, 0, 0, 0,
+    0, 0, 0, 0, 0, 0, 0, 0, 0, 0, 0, 0, 0, 0, 0, 0, 0, 0, 0, 0, 0, 0, 0, 0, 0, 0, 0, 0, 0, 0, 0, 0,
+    0, 0, 0, 0, 0, 243, 0, 0, 0, 0, 244, 0, 0, 0, 0, 0, 0, 0, 0, 0, 0, 0, 0, 0, 0, 0, 0, 0, 0, 0,
+    0, 0, 0, 0, 0, 0, 0, 0, 0, 0, 0, 0, 0, 0, 0, 0, 0,
 ];
 
 pub const WIDTH: u8 = 81;
