@@ -6,14 +6,15 @@ use case_table::{Meaning, unescaped};
 use std::alloc::Global;
 
 /// How the texts are written: whole; as parts that are separated by ` @ `, each with how many times it stands, as in
-/// `1 package p\n @ 200 import "a"\n`; or several that begin alike, as in `package p\nconst @ + - 5`, where the text before the
-/// ` @ ` goes on with a space and with one word of those behind it. Or whole, where the
-/// table wants their trees.
-#[derive(Clone, Copy, Debug)]
+/// `1 package p\n @ 200 import "a"\n`; several that begin alike, as in `package p\nconst @ + - 5`, where the text before the
+/// ` @ ` goes on with a space and with one word of those behind it; or as the number of bytes of a front of one text. Or whole,
+/// where the table wants their trees.
+#[derive(Debug, Drop)]
 pub(crate) enum Texts {
     Whole,
     InParts,
     BegunAlike,
+    FrontsOf(Vec<u8>),
     Trees,
 }
 
@@ -72,12 +73,25 @@ fn other_of_alike(alloc: Global, said: &str, want: &str) -> Result<Option<String
     Ok(None)
 }
 
+// The answer for the first bytes of a text, where that isn't what the table wants.
+fn other_of_front(alloc: Global, text: &[u8], said: &str, want: &str) -> Result<Option<String>> {
+    let length = said.parse::<usize>().context("how many bytes a front has")?;
+    match text.get(..length) {
+        Some(front) => other_answer(alloc, front, want),
+        None => bail!("the text has no front of {length} bytes"),
+    }
+}
+
 impl Meaning for Texts {
     fn new(_alloc: Global) -> Result<Texts> {
         Ok(Texts::Whole)
     }
 
-    fn take(&mut self, _alloc: Global, line: &str) -> Result<bool> {
+    fn take(&mut self, alloc: Global, line: &str) -> Result<bool> {
+        if let Some(text) = line.strip_prefix("fronts of ") {
+            *self = Texts::FrontsOf(unescaped(alloc, text)?);
+            return Ok(true);
+        }
         match line {
             "whole texts" => *self = Texts::Whole,
             "texts in parts" => *self = Texts::InParts,
@@ -93,6 +107,7 @@ impl Meaning for Texts {
             Texts::Whole => other_answer(alloc, &unescaped(alloc, said)?, want),
             Texts::InParts => other_answer(alloc, &joined(alloc, said)?, want),
             Texts::BegunAlike => other_of_alike(alloc, said, want),
+            Texts::FrontsOf(text) => other_of_front(alloc, text, said, want),
             Texts::Trees => other_than(answer_tree(alloc, &unescaped(alloc, said)?)?, want),
         }
     }
