@@ -9,7 +9,7 @@ use Rattle.gv_resources.specs.Kinds as kind
 use Rattle.gv_resources.specs.Kinds.{Kind, item_kind}
 use Rattle.gv_resources.specs.Pieces.{Resource, Have, Piece}
 use Rattle.gv_assertions.specs.Atoms.{Atom, Predicate, Takes, here, there}
-use Rattle.gv_assertions.specs.Standing.{AreParts, StandsFor, StandForAll, owns, slice, spare, instance, each, none, both, valued, OwnsItems, OwnsSpare, cell_key}
+use Rattle.gv_assertions.specs.Standing.{AreParts, StandsFor, StandForAll, owns, slice, spare, instance, each, none, both, valued, OwnsItems, OwnsSpare, cell_key, owned_key}
 use Rattle.gv_assertions.specs.Laws.{Parted, ListsLaw}
 
 -- ---- who owns more
@@ -26,7 +26,7 @@ more_spare s p q le h place a b =
 
 mutual
   pub more_for : {preds : List Predicate} {env : Env} {a : Atom} {p q : Piece} → ((e : Resource) → p e ≤ q e) → StandsFor preds env a p → StandsFor preds env a q
-  more_for le (owns {env = env} {k = k} {key = key} {value = value} has) = owns (let l = le (Have k (valued env key) (valued env value)) in omega arith)
+  more_for le (owns {env = env} {k = k} {key = key} {value = value} has) = owns (let l = le (Have k (owned_key k (valued env key)) (valued env value)) in omega arith)
   more_for {p = p} {q = q} le (slice {env = env} {frozen = frozen} {s = s} h) = slice (record {
     items = h.items;
     of_list = h.of_list;

@@ -33,10 +33,12 @@ module _ (preds : List Predicate) (env : Env) (index : List ℕ) where
             (λ n l h f. more_for (λ e. let s = piece_elsewhere parts k n (λ e. 0) e f.0 in omega arith) (stands n l h f.1)),
       )
 
-  put : (low high t : TermTree) (except : List TermTree) (a : Atom) (p q r : Piece) → number_under env t < number_under env high → AreParts q r p
-      → StandsFor preds (indexed env index (number_under env t)) a q → StandsFor preds env (Each index low high (t ∷ except) a) r
+  within : (low high t : TermTree) (except : List TermTree) (a : Atom) (p q r : Piece) → number_under env t < number_under env high → AreParts q r p
+      → StandsFor preds (indexed env index (number_under env t)) a q → (parts : ℕ → Piece)
+      → ((e : Resource) → sum_below (number_under env high) (λ n. parts n e) ≤ r e)
+      → ((n : ℕ) → number_under env low ≤ n → n < number_under env high → IsNoneOf env (t ∷ except) n → StandsFor preds (indexed env index n) a (parts n))
       → StandsFor preds env (Each index low high except a) p
-  put low high t except a p q r below split one (each parts sums stands) =
+  within low high t except a p q r below split one parts sums stands =
       let k = number_under env t in
       let all = with_piece parts k q in
       ranged low high except a p all
@@ -46,6 +48,14 @@ module _ (preds : List Predicate) (env : Env) (index : List ℕ) where
             (subst (λ j. StandsFor preds (indexed env index j) a q) (sym same) one)
         | inr (ne, b) ↦ more_for (λ e. let s = piece_elsewhere parts k n q e ne in omega arith) (stands n l h (ne, f))
       ])
+
+  put : (low high t : TermTree) (except : List TermTree) (a : Atom) (p q r : Piece) → AreParts q r p
+      → StandsFor preds (indexed env index (number_under env t)) a q → StandsFor preds env (Each index low high (t ∷ except) a) r
+      → StandsFor preds env (Each index low high except a) p
+  put low high t except a p q r split one (each parts sums stands) = elim (below_test (number_under env t) (number_under env high)) [
+    | inl (below, b) ↦ within low high t except a p q r below split one parts sums stands
+    | inr (above, b) ↦ ranged low high except a p parts (λ e. let s = sums e in let l = split e in omega arith) (λ n l h f. stands n l h ((λ same. omega (arith, same, h, above)), f))
+  ]
 
   split : (low mid high : TermTree) (a : Atom) (p : Piece) → number_under env low ≤ number_under env mid → number_under env mid ≤ number_under env high
       → StandsFor preds env (Each index low high [] a) p
@@ -60,6 +70,10 @@ module _ (preds : List Predicate) (env : Env) (index : List ℕ) where
         ranged mid high [] a (λ e. sum_below (number_under env high) (λ n. upper n e)) upper (λ e. omega arith)
             (λ n l h f. more_for (λ e. let s : upper n e ≡ parts n e = grind arith in omega arith) (stands n (omega arith) h tt)),
       )
+
+  others : (low high : TermTree) (except more : List TermTree) (a : Atom) (p : Piece) → ((n : ℕ) → IsNoneOf env more n → IsNoneOf env except n)
+      → StandsFor preds env (Each index low high except a) p → StandsFor preds env (Each index low high more a) p
+  others low high except more a p fewer (each parts sums stands) = ranged low high more a p parts sums (λ n l h f. stands n l h (fewer n f))
 
   join : (low mid high : TermTree) (a : Atom) (p q r : Piece) → AreParts q r p → StandsFor preds env (Each index low mid [] a) q
       → StandsFor preds env (Each index mid high [] a) r → StandsFor preds env (Each index low high [] a) p
@@ -83,7 +97,8 @@ module _ (preds : List Predicate) (env : Env) (index : List ℕ) where
 pub range_laws : RangesLaw
 range_laws preds = record {
   take = λ env index low high t except a p from below free s. take preds env index low high t except a p from below free s;
-  put = λ env index low high t except a p below (q, r, parts, one, s). put preds env index low high t except a p q r below parts one s;
+  put = λ env index low high t except a p (q, r, parts, one, s). put preds env index low high t except a p q r parts one s;
+  others = λ env index low high except more a p fewer s. others preds env index low high except more a p fewer s;
   split = λ env index low mid high a p from inside s. split preds env index low mid high a p from inside s;
   join = λ env index low mid high a p (q, r, parts, s, t). join preds env index low mid high a p q r parts s t;
   empty = λ env index low high except a p none. empty preds env index low high except a p none;

@@ -5,7 +5,7 @@ use Rattle.gv_terms.specs.declared.var.Var.{Var}
 use Rattle.gv_resources.specs.Kinds.{Kind}
 
 pub data Atom : Type 0 where
-  -- one resource of a kind: the terms of its key, and of its value
+  -- one resource of a kind: the terms of its key, and of its value; the key of a struct's cell tells the struct's number besides, behind the object
   Owns : Kind → (key value : List TermTree) → Atom
   -- the cells of a slice, with the items of a list; owned, or read-only
   Slice : (frozen : Bool) → (slice items : TermTree) → Atom

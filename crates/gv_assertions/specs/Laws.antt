@@ -49,8 +49,11 @@ pub record RangeLaws (preds : List Predicate) : Type 0 where
       → IsTakenOutOf preds env index low high t except a p
   -- and goes back
   pub put : (env : Env) (index : List ℕ) (low high t : TermTree) (except : List TermTree) (a : Atom) (p : Piece)
-      → number_under env t < number_under env high
       → IsTakenOutOf preds env index low high t except a p → StandsFor preds env (Each index low high except a) p
+  -- the numbers that are left out may be told in another order, or more often, or be more
+  pub others : (env : Env) (index : List ℕ) (low high : TermTree) (except more : List TermTree) (a : Atom) (p : Piece)
+      → ((n : ℕ) → IsNoneOf env more n → IsNoneOf env except n)
+      → StandsFor preds env (Each index low high except a) p → StandsFor preds env (Each index low high more a) p
   -- a range falls into two at a number between its ends, and two such ranges are one
   pub split : (env : Env) (index : List ℕ) (low mid high : TermTree) (a : Atom) (p : Piece)
       → number_under env low ≤ number_under env mid → number_under env mid ≤ number_under env high

@@ -1,4 +1,5 @@
 pub mod Atoms
+pub mod Ranges
 pub mod Standing
 pub mod Kept
 pub mod Laws

@@ -12,6 +12,7 @@ use Rattle.gv_atomic.specs.Choices.{bound, binds}
 use Rattle.gv_resources.specs.Kinds as kind
 use Rattle.gv_resources.specs.Kinds.{Kind, item_kind}
 use Rattle.gv_resources.specs.Pieces.{Resource, Have, Piece, sum_below}
+use Rattle.gv_assertions.specs.Ranges.{IsPossible}
 use Rattle.gv_assertions.specs.Atoms.{Atom, Owns, Slice, Spare, Instance, Each, Case, Predicate, facts_of, atoms_of}
 
 abbrev pub valued : Env → List TermTree → List Value
@@ -29,12 +30,12 @@ abbrev pub AreTrueUnder : Env → List TermTree → Type 0
 AreTrueUnder env [] = Unit {0}
 AreTrueUnder env (fact ∷ facts) = IsTrueUnder env fact × AreTrueUnder env facts
 
--- as many values as variables, each of its variable's sort
+-- as many values as variables, each of its variable's sort, and one that can be
 abbrev pub AreValuesOf : List Var → List Value → Type 0
 AreValuesOf [] [] = Unit {0}
 AreValuesOf [] (v ∷ values) = ⊥
 AreValuesOf (x ∷ vars) [] = ⊥
-AreValuesOf (x ∷ vars) (v ∷ values) = (has_sort v x.sort ≡ true) × AreValuesOf vars values
+AreValuesOf (x ∷ vars) (v ∷ values) = (has_sort v x.sort ≡ true) × IsPossible v × AreValuesOf vars values
 
 abbrev pub names_of : List Var → List (List ℕ)
 names_of vars = map (λ x. x.name) vars
@@ -51,6 +52,19 @@ indexed env index n = binds (record { name = index; value = val.Word n } ∷ env
 abbrev pub IsNoneOf : Env → List TermTree → ℕ → Type 0
 IsNoneOf env [] n = Unit {0}
 IsNoneOf env (t ∷ ts) n = (n ≢ number_under env t) × IsNoneOf env ts n
+
+-- ---- keys
+
+-- an object and a place in it; the struct's number tells assertions apart, and no resources
+abbrev pub without_struct : List Value → List Value
+without_struct (object ∷ of ∷ place ∷ []) = object ∷ place ∷ []
+without_struct _ = []
+
+-- the key of the resource that an assertion with this key names
+abbrev pub owned_key : Kind → List Value → List Value
+owned_key kind.Cell key = without_struct key
+owned_key kind.FrozenCell key = without_struct key
+owned_key _ key = key
 
 -- ---- slices
 
@@ -88,7 +102,7 @@ AreParts q r p = (e : Resource) → q e + r e ≤ p e
 
 mutual
   pub data StandsFor (preds : List Predicate) : Env → Atom → Piece → Type 0 where
-    owns : {env : Env} {k : Kind} {key value : List TermTree} {p : Piece} → 0 < p (Have k (valued env key) (valued env value))
+    owns : {env : Env} {k : Kind} {key value : List TermTree} {p : Piece} → 0 < p (Have k (owned_key k (valued env key)) (valued env value))
         → StandsFor preds env (Owns k key value) p
     slice : {env : Env} {frozen : Bool} {s items : TermTree} {p : Piece} → OwnsSlice frozen (slice_of (value_under env s)) (value_under env items) p
         → StandsFor preds env (Slice frozen s items) p

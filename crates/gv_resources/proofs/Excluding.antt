@@ -10,7 +10,7 @@ use Rattle.gv_resources.specs.Kinds as kind
 use Rattle.gv_resources.specs.Kinds.{Kind, most}
 use Rattle.gv_resources.specs.Ghost.{Ghost}
 use Rattle.gv_resources.specs.Pieces.{Have, Piece, Fits}
-use Rattle.gv_resources.specs.Told.{Shape, told, under, only_if, cell_at, cell_of, object_of, free_mutex, held_mutex, guarded_by, may_act, token_at, acted_with, call_of, failed_in}
+use Rattle.gv_resources.specs.Told.{Shape, told, under, only_if, one, is_leased, cell_at, cell_of, object_of, number_of, free_mutex, held_mutex, guarded_by, may_act, token_at, acted_with, call_of, failed_in}
 use Rattle.gv_resources.specs.Laws.{AreParts, IsOneFailed, Excludes, ExcludesLaw}
 
 -- ---- what is told under one key
@@ -70,6 +70,16 @@ token_or_done z Answered kept false v u h k = absurd cc
 token_or_done z Dropped kept true v u h k = absurd cc
 token_or_done z Dropped kept false v u h k = absurd cc
 
+-- what is told of a leased field's lease is told of the field
+under_test : {K : Type 0} (key : Option K) (test : K → Bool) (f : K → Option (List Value)) (v u : List Value) → under key f ≡ Some v
+    → under key (λ k. only_if (test k) (f k)) ≡ Some u → v ≡ u
+under_test None test f v u h k = absurd cc
+under_test (Some key) test f v u h k = tested (test key) (f key) v u h k
+  where
+    tested : (test : Bool) (x : Option (List Value)) (v u : List Value) → x ≡ Some v → only_if test x ≡ Some u → v ≡ u
+    tested true x v u h k = same_some v u (sym h ∙ k)
+    tested false x v u h k = absurd cc
+
 -- a disk that is told as failed is there and has failed
 down : (x : Option Disk) (v : List Value) → failed_in x ≡ Some v → (disk : Disk) × (x ≡ Some disk) × (disk.failed ≡ true)
 down None v h = absurd cc
@@ -119,6 +129,10 @@ module _ (z : Shape) (w : World) (g : Ghost) (p : Piece) (f : Fits p (told z w g
   excluding = record {
     agree = agree;
     alone = alone;
+    blocks = λ key v u h l. same_some v u (sym (f.says kind.Master key v h) ∙ f.says kind.Lease key u l);
+    fields = λ key v u h l. under_test (number_of key) (λ place. is_leased (slice_get z.leased place)) (λ place. one (slice_get g.walk.fields place)) v u
+        (f.says kind.Field key v h) (f.says kind.FieldLease key u l);
+    books = λ key v u h l. same_some v u (sym (f.says kind.BookMaster key v h) ∙ f.says kind.BookLease key u l);
     halves = λ key v. f.few kind.Half key v 2 refl;
     cells = λ key v u h l. cell_once w g false (cell_of key) v u (f.says kind.Cell key v h) (f.says kind.FrozenCell key u l);
     items = λ key v u h l. cell_once w g true (cell_of key) v u (f.says kind.Item key v h) (f.says kind.FrozenItem key u l);

@@ -1,6 +1,7 @@
 -- What is kept beside a machine's state to say who owns what: the explanation so far, and what neither the heap nor the disks tell.
 use Rattle.std.specs.Prelude.{ℕ, Bool, List, Option}
 use Rattle.gv_terms.specs.declared.value.Value.{Value}
+use Rattle.gv_spec.specs.Entry.{Entry}
 use Rattle.gv_spec.specs.Move.{Move}
 use Rattle.gv_spec.specs.Walks.{WalkState}
 
@@ -11,7 +12,8 @@ pub data Mode : Type 0 where
   Shared : Mode
 
 pub record Ghost : Type 0 where
-  -- the explanation so far, and where its walk stands
+  -- the history so far, the explanation of it, and where that one's walk stands
+  pub history : List (Entry Value)
   pub moves : List (Move Value)
   pub walk : WalkState (List Value) Value
   -- the reply of each call that has acted, also of one that has left the table

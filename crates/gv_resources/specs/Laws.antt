@@ -32,6 +32,10 @@ pub record Excludes (z : Shape) (w : World) (g : Ghost) (p : Piece) : Type 0 whe
   -- what may be owned once is no two owners'
   pub alone : (k : Kind) (key v u : List Value) (one other : Piece) → most k ≡ Some 1 → AreParts one other p → 0 < one (Have k key v)
       → 0 < other (Have k key u) → ⊥
+  -- a block's master and its lease know one value; so do a leased field and its lease, and the two of a cell of a book
+  pub blocks : (key v u : List Value) → 0 < p (Have kind.Master key v) → 0 < p (Have kind.Lease key u) → v ≡ u
+  pub fields : (key v u : List Value) → 0 < p (Have kind.Field key v) → 0 < p (Have kind.FieldLease key u) → v ≡ u
+  pub books : (key v u : List Value) → 0 < p (Have kind.BookMaster key v) → 0 < p (Have kind.BookLease key u) → v ≡ u
   -- of one name there are two halves at most
   pub halves : (key v : List Value) → p (Have kind.Half key v) ≤ 2
   -- no cell is owned and read-only

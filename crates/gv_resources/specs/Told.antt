@@ -129,10 +129,16 @@ may_act z _ = None
 abbrev pub token_at : Shape → Ghost → ℕ → Option (List Value)
 token_at z g call = only_if (nat_lt g.gone call) (may_act z (g.walk.table call))
 
+-- a reply, where there is one: an operation without a reply keeps a unit, which no term has as its value
+abbrev pub replied : Option Value → Option (List Value)
+replied None = None
+replied (Some val.Unit) = Some []
+replied (Some v) = Some (v ∷ [])
+
 -- the reply of a call that has acted, in the table or not
 abbrev pub acted_with : Standing Value → Option Value → Option (List Value)
 acted_with (Called op args) kept = None
-acted_with _ kept = one kept
+acted_with _ kept = replied kept
 
 abbrev pub is_in_table : Standing Value → Bool
 is_in_table (Called op args) = true
