@@ -14,7 +14,7 @@ use Rattle.gv_terms.specs.Values.{has_sort, word_of, slice_of}
 use Rattle.gv_terms.specs.Trees.{sort_of, looked_up, value_under}
 use Rattle.gv_resources.specs.Pieces.{Have, Piece, sum_below}
 use Rattle.gv_assertions.specs.Atoms.{Atom, Owns, Slice, Spare, Instance, Each, Predicate, facts_of, atoms_of}
-use Rattle.gv_assertions.specs.Standing.{StandsFor, StandForAll, owns, slice, spare, instance, each, none, both, valued, indexed, IsNoneOf, OwnsSlice, OwnsSpare, AreTrueUnder, case_env}
+use Rattle.gv_assertions.specs.Standing.{StandsFor, StandForAll, owns, slice, spare, instance, each, none, both, valued, owned_key, indexed, IsNoneOf, OwnsSlice, OwnsSpare, AreTrueUnder, case_env}
 use Rattle.gv_instances.specs.Instances.{Given, AreSorted, put_in, put_in_all, put_in_atom, put_in_atoms, stands_in, binding_of, given_under, IsApart, AreApart, AreAllApart}
 use Rattle.gv_instances.specs.Laws.{AssertionsLaw}
 use Rattle.gv_instances.proofs.Sorts.{same_sort}
@@ -45,8 +45,8 @@ none_same env other same (t ∷ ts) n h = ((λ e. h.0 (e ∙ ap word_of (each_te
 -- an assertion stands under valuations that agree
 pub under_same_lookups : (preds : List Predicate) (env other : Env) (a : Atom) (p : Piece) → SameLookups env other → StandsFor preds env a p → StandsFor preds other a p
 under_same_lookups preds env other (Owns k key value) p same (owns has) =
-    owns (subst (λ (x : List Value). 0 < p (Have k x (valued other value))) (each_terms env other same key)
-    (subst (λ (x : List Value). 0 < p (Have k (valued env key) x)) (each_terms env other same value) has))
+    owns (subst (λ (x : List Value). 0 < p (Have k (owned_key k x) (valued other value))) (each_terms env other same key)
+    (subst (λ (x : List Value). 0 < p (Have k (owned_key k (valued env key)) x)) (each_terms env other same value) has))
 under_same_lookups preds env other (Slice frozen s items) p same (slice h) =
     slice (subst (λ (x : Value). OwnsSlice frozen (slice_of x) (value_under other items) p) (each_term env other same s)
     (subst (λ (x : Value). OwnsSlice frozen (slice_of (value_under env s)) x p) (each_term env other same items) h))
@@ -139,8 +139,8 @@ module _ (preds : List Predicate) (given : List Given) (sorted : AreSorted given
 
   pub out : (a : Atom) (env : Env) (p : Piece) → AreApart given a → StandsFor preds env (put_in_atom given a) p → StandsFor preds (given_under given env) a p
   out (Owns k key value) env p apart (owns has) =
-      owns (subst (λ (x : List Value). 0 < p (Have k x (valued (given_under given env) value))) (values_put env key)
-      (subst (λ (x : List Value). 0 < p (Have k (valued env (put_in_all given key)) x)) (values_put env value) has))
+      owns (subst (λ (x : List Value). 0 < p (Have k (owned_key k x) (valued (given_under given env) value))) (values_put env key)
+      (subst (λ (x : List Value). 0 < p (Have k (owned_key k (valued env (put_in_all given key))) x)) (values_put env value) has))
   out (Slice frozen s items) env p apart (slice h) =
       slice (subst (λ (x : Value). OwnsSlice frozen (slice_of x) (value_under (given_under given env) items) p) (put_value given env sorted s)
       (subst (λ (x : Value). OwnsSlice frozen (slice_of (value_under env (put_in given s))) x p) (put_value given env sorted items) h))
@@ -158,8 +158,8 @@ module _ (preds : List Predicate) (given : List Given) (sorted : AreSorted given
 
   pub into : (a : Atom) (env : Env) (p : Piece) → AreApart given a → StandsFor preds (given_under given env) a p → StandsFor preds env (put_in_atom given a) p
   into (Owns k key value) env p apart (owns has) =
-      owns (subst (λ (x : List Value). 0 < p (Have k x (valued env (put_in_all given value)))) (sym (values_put env key))
-      (subst (λ (x : List Value). 0 < p (Have k (valued (given_under given env) key) x)) (sym (values_put env value)) has))
+      owns (subst (λ (x : List Value). 0 < p (Have k (owned_key k x) (valued env (put_in_all given value)))) (sym (values_put env key))
+      (subst (λ (x : List Value). 0 < p (Have k (owned_key k (valued (given_under given env) key)) x)) (sym (values_put env value)) has))
   into (Slice frozen s items) env p apart (slice h) =
       slice (subst (λ (x : Value). OwnsSlice frozen (slice_of x) (value_under env (put_in given items)) p) (sym (put_value given env sorted s))
       (subst (λ (x : Value). OwnsSlice frozen (slice_of (value_under (given_under given env) s)) x p) (sym (put_value given env sorted items)) h))

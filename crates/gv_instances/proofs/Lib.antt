@@ -1,3 +1,5 @@
 pub mod Trees
 pub mod Sorts
 pub mod Assertions
+pub mod Agreeing
+pub mod Alike

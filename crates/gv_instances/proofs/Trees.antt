@@ -23,7 +23,8 @@ use Rattle.gv_terms.proofs.ValueSorts.{values_have_sorts}
 use Rattle.gv_atomic.specs.Choices.{binds}
 use Rattle.gv_instances.proofs.Sorts.{same_sort, sort_itself}
 use Rattle.gv_instances.specs.Instances.{Given, AreSorted, term_for, put_in, stands_in, binding_of, given_under}
-use Rattle.gv_instances.specs.Laws.{AgreeOn, AgreementLaw, TermsLaw}
+use Rattle.gv_instances.specs.Agreeing.{AgreeOn}
+use Rattle.gv_instances.specs.Laws.{AgreementLaw, TermsLaw}
 
 -- ---- one level
 

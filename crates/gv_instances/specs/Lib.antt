@@ -1,2 +1,4 @@
 pub mod Instances
+pub mod Agreeing
+pub mod Alike
 pub mod Laws

@@ -3,4 +3,6 @@
 
 mod laws;
 
-pub use laws::{agreement, put_in_assertions, put_in_terms};
+pub use laws::{
+    agreement, alike_assertions, assertion_agreement, closed_terms, put_in_assertions, put_in_terms,
+};
