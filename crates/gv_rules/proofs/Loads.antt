@@ -39,11 +39,15 @@ use Rattle.gv_assertions.specs.Atoms.{Owns}
 use Rattle.gv_assertions.specs.Standing.{StandsFor, owns}
 use Rattle.gv_assertions.proofs.Lists.{front, parted}
 use Rattle.gv_seats.specs.Paths.{number, goes_on}
-use Rattle.gv_seats.specs.Seats.{plain, is_marked, OwnsCell, of_locks}
-use Rattle.gv_seats.specs.Rules.{Goes, goes, loads, IsLocalSort}
-use Rattle.gv_seats.specs.Laws.{LoadsLaw}
+use Rattle.gv_seats.specs.Seats.{plain, is_marked, CellAt, OwnsTarget, shape_of, of_locks}
+use Rattle.gv_seats.specs.Changes.{Nothing}
+use Rattle.gv_seats.specs.Soundness.{Goes, goes, at_rest}
+use Rattle.gv_rules.specs.Rows.{loads, IsLocalSort}
+use Rattle.gv_rules.specs.Laws.{LoadsLaw}
+use Rattle.gv_seats.proofs.Bases.{arrived}
 use Rattle.gv_seats.proofs.Expressions.{expressions_law}
-use Rattle.gv_seats.proofs.Steps.{resting, left_with, seat_set}
+use Rattle.gv_seats.proofs.Objects.{one_run, cells_are}
+use Rattle.gv_rules.proofs.Steps.{with_local, left_with, seat_set}
 
 -- ---- what is told of a cell
 
@@ -76,25 +80,12 @@ read_plain (stored.Slice t) x s e h l = ap Some e
 read_plain (stored.Byte b) x s e h l = let d : Some sort.Bytes ≡ Some s = ap sort_of_value e ∙ h in let k : sort.Bytes ≡ s = cc in absurd (subst (λ (z : Sort). IsLocalSort z) (sym k) l)
 read_plain stored.Unit x s e h l = let d : None ≡ Some s = ap sort_of_value e ∙ h in absurd cc
 
--- the run of one cell
-pub one_run : (cells : List Cell) (place : ℕ) (c : Cell) → slice_get cells place ≡ Some c → run cells place 1 ≡ c ∷ []
-one_run [] place c e = absurd cc
-one_run (d ∷ cells) zero c e = cc
-one_run (d ∷ cells) (suc place) c e = one_run cells place c e
-
 reads_run : (cells : List Cell) (c : Cell) → cells ≡ c ∷ [] → c.marked ≡ false → and_then (unmarked cells 1) first_value ≡ Next (as_read c.value)
 reads_run cells c is m = rw is (rest c.marked m)
   where
     rest : (marked : Bool) → marked ≡ false → and_then (unmarked (record { value = c.value; marked = marked } ∷ []) 1) first_value ≡ Next (as_read c.value)
     rest false m = refl
     rest true m = absurd cc
-
-numbered : (w : World) (object n : ℕ) (is_nil : Bool) → is_nil ≡ false → object - 1 ≡ n → undefined_if is_nil NilUse (as_cells (slice_get w.objects (object - 1))) ≡ as_cells (slice_get w.objects n)
-numbered w object n false e d = ap (λ k. as_cells (slice_get w.objects k)) d
-numbered w object n true e d = absurd cc
-
-pub cells_are : (w : World) (n : ℕ) → cells_of w (suc n) ≡ as_cells (slice_get w.objects n)
-cells_are w n = numbered w (suc n) n (nat_eq (suc n) 0) (grind arith) (omega arith)
 
 reads : (w : World) (object place : ℕ) (c : Cell) → slice_get (cells_in (object_at w object)) place ≡ Some c → c.marked ≡ false → read_cell w object place ≡ Next (as_read c.value)
 reads w zero place c there m = absurd cc
@@ -115,7 +106,7 @@ module _ (z : Shape) (w : World) (g : Ghost) (whole : Piece) (f : Fits whole (to
   key = val.Ref object ∷ val.Word place ∷ []
 
   -- who owns the cell, or knows it as read-only, knows that nobody else owns it
-  pub nobody : (frozen : Bool) (v : List Value) (mine rest : Piece) → ((e : Resource) → mine e + rest e ≤ whole e) → 0 < mine (Have (cell_kind frozen) key v) → OwnsCell rest object place → ⊥
+  pub nobody : (frozen : Bool) (v : List Value) (mine rest : Piece) → ((e : Resource) → mine e + rest e ≤ whole e) → 0 < mine (Have (cell_kind frozen) key v) → OwnsTarget rest (CellAt object place) → ⊥
   nobody false v mine rest parts has (inl (u, other)) = (excludes_law z w g whole f).alone kind.Cell key v u mine rest refl parts has other
   nobody true v mine rest parts has (inl (u, other)) =
       let a = parts (Have kind.FrozenCell key v) in
@@ -154,20 +145,22 @@ module _ (program : Program) (extra : ℕ) (w : World) (f : Frame) (below : List
   at todo = record f { todo = todo }
 
   load_step : (x : ℕ) (p : Expr) (of field : ℕ) (place : Place) (next : Todo) (n : ℕ) (v : Val) → f.todo ≡ Run (Do (Load x p of field) place) ∷ next
-      → value f.locals p ≡ Some (stored.Ref n) → read_cell w n field ≡ Next v → stepped program extra (resting f below) w ≡ left_with program extra w f below x v next
+      → value f.locals p ≡ Some (stored.Ref n) → read_cell w n field ≡ Next v → stepped program extra (at_rest f below) w ≡ left_with program extra w f below x v next
   load_step x p of field place next n v is found read =
-      subst (λ (todo : Todo). stepped program extra (resting (at todo) below) w ≡ left_with program extra w f below x v next) (sym is)
+      subst (λ (todo : Todo). stepped program extra (at_rest (at todo) below) w ≡ left_with program extra w f below x v next) (sym is)
       (subst (λ (r : Option Val). and_then (and_then (as_ref r) (λ o. and_then (read_cell w o field) (λ u. sets w f.locals x u)))
-      (settled (resting (at (Run (Do (Load x p of field) place) ∷ next)) below) w (Some next)) ≡ left_with program extra w f below x v next) (sym found)
-      (subst (λ (a : Answer Val). and_then (and_then a (λ u. sets w f.locals x u)) (settled (resting (at (Run (Do (Load x p of field) place) ∷ next)) below) w (Some next))
+      (settled (at_rest (at (Run (Do (Load x p of field) place) ∷ next)) below) w (Some next)) ≡ left_with program extra w f below x v next) (sym found)
+      (subst (λ (a : Answer Val). and_then (and_then a (λ u. sets w f.locals x u)) (settled (at_rest (at (Run (Do (Load x p of field) place) ∷ next)) below) w (Some next))
       ≡ left_with program extra w f below x v next) (sym read) refl))
 
 pub cell_key : (x y : Value) (n field : ℕ) → x ≡ val.Ref n → y ≡ val.Word field → x ∷ y ∷ [] ≡ val.Ref n ∷ val.Word field ∷ []
 cell_key x y n field e d = rw (e, d) refl
 
-pub owned_cell : {preds : List _} {env : Env} {k : Kind} {object v : TermTree} {field : ℕ} {p : Piece} → StandsFor preds env (Owns k (object ∷ number field ∷ []) (v ∷ [])) p
-    → 0 < p (Have k (value_under env object ∷ value_under env (number field) ∷ []) (value_under env v ∷ []))
-owned_cell (owns has) = has
+pub owned_cell : {preds : List _} {env : Env} {object v : TermTree} {of field : ℕ} {p : Piece} (frozen : Bool)
+    → StandsFor preds env (Owns (cell_kind frozen) (object ∷ number of ∷ number field ∷ []) (v ∷ [])) p
+    → 0 < p (Have (cell_kind frozen) (value_under env object ∷ value_under env (number field) ∷ []) (value_under env v ∷ []))
+owned_cell false (owns has) = has
+owned_cell true (owns has) = has
 
 pub cell_told : (z : Shape) (w : World) (g : Ghost) (frozen : Bool) (n field : ℕ) (x : Value)
     → told z w g (cell_kind frozen) (val.Ref n ∷ val.Word field ∷ []) ≡ Some (x ∷ []) → Found w n field x
@@ -175,22 +168,24 @@ cell_told z w g false n field x e = found_in w n field x _ refl (only_if_is _ _ 
 cell_told z w g true n field x e = found_in w n field x _ refl (only_if_is _ _ (x ∷ []) e)
 
 pub loads_law : LoadsLaw
-loads_law o h k (loads x p object v of field frozen left place next todo l term object_sort s v_sort local takes) program extra w g f below rest seat =
+loads_law o h k (loads x p object v of field frozen left place next may todo l term object_sort s v_sort local takes) program extra w g start f below rest seat =
     let (ref, p_found, p_is) = expressions_law seat.env h.locals f.locals seat.described.locals p object sort.Ref term object_sort in
     let (n, object_is) = ref_value (value_under seat.env object) (values_have_sorts seat.env object sort.Ref object_sort) in
     let (mine, others, split, stands, left_stand) = parted (front takes seat.described.stands) in
     let xs : List Value = value_under seat.env v ∷ [] in
     let key_is : value_under seat.env object ∷ value_under seat.env (number field) ∷ [] ≡ val.Ref n ∷ val.Word field ∷ [] = cell_key (value_under seat.env object) (value_under seat.env (number field)) n field object_is (value_apply seat.env (op.Number field) []) in
-    let has : 0 < mine (Have (cell_kind frozen) (val.Ref n ∷ val.Word field ∷ []) xs) = subst (λ (key : List Value). 0 < mine (Have (cell_kind frozen) key xs)) key_is (owned_cell stands) in
+    let has : 0 < mine (Have (cell_kind frozen) (val.Ref n ∷ val.Word field ∷ []) xs) = subst (λ (key : List Value). 0 < mine (Have (cell_kind frozen) key xs)) key_is (owned_cell frozen stands) in
     let whole : Piece = λ e. seat.piece e + (seat.pool e + (of_locks w seat.locks e + rest e)) in
     let within = split (Have (cell_kind frozen) (val.Ref n ∷ val.Word field ∷ []) xs) in
     let says = seat.base.fits.says (cell_kind frozen) (val.Ref n ∷ val.Word field ∷ []) xs (omega arith) in
-    let found = cell_told o.shape w g frozen n field (value_under seat.env v) says in
-    let still = unmarked_is found.cell.marked (λ m. nobody o.shape w g whole seat.base.fits n field frozen xs mine rest (λ e. let d = split e in omega arith) has
-    (seat.still.cells n field (ap is_marked found.there ∙ m))) in
+    let found = cell_told (shape_of o) w g frozen n field (value_under seat.env v) says in
+    let still = unmarked_is found.cell.marked (λ m. nobody (shape_of o) w g whole seat.base.fits n field frozen xs mine rest (λ e. let d = split e in omega arith) has
+    (seat.still (CellAt n field) (ap is_marked found.there ∙ m))) in
     let read = reads w n field found.cell found.there still in
     let ref_is = as_ref_is ref n (p_is ∙ ap Some object_is) in
     let step = load_step program extra w f below x p of field place next n (as_read found.cell.value) (seat.described.todo ∙ todo) (p_found ∙ ap Some ref_is) read in
-    subst (λ (answer : Answer Stepped). Goes o g below (goes_on h next (slice_set h.locals x (Some v)) h.atoms) rest answer) (sym step)
-    (goes (seat_set o w g f h rest x v (as_read found.cell.value) next seat l
-    (read_plain found.cell.value (value_under seat.env v) s found.is (values_have_sorts seat.env v s v_sort) local)))
+    let after = goes_on h next (slice_set h.locals x (Some v)) h.atoms in
+    let now = with_local f x (as_read found.cell.value) next in
+    subst (λ (answer : Answer Stepped). Goes o g start below h (after ∷ []) rest Nothing answer) (sym step)
+    (goes (arrived o w g start now h after rest refl (seat_set o w g start f h rest x v (as_read found.cell.value) next seat l
+    (read_plain found.cell.value (value_under seat.env v) s found.is (values_have_sorts seat.env v s v_sort) local))))

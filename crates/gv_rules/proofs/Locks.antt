@@ -1,5 +1,5 @@
 -- Locking and unlocking a mutex that guards something.
-use Rattle.std.proofs.Common.{◌≡◌, ◌≢◌, ℕ, zero, suc, ◌+◌, ◌-◌, ◌<◌, Bool, true, false, not, if◌then◌else◌, List, [], ◌∷◌, length, Option, Some, None, refl, sym, ap, subst, ◌∙◌, inl, inr, arith}
+use Rattle.std.proofs.Common.{◌≡◌, ◌≢◌, ℕ, zero, suc, ◌+◌, ◌-◌, ◌<◌, Bool, true, false, not, if◌then◌else◌, List, [], ◌∷◌, ◌++◌, length, Option, Some, None, refl, sym, ap, subst, ◌∙◌, inl, inr, arith}
 use Rattle.std.specs.Prelude.{slice_get, slice_set, nat_eq}
 use Rattle.std.proofs.lemmas.Option.{slice_get_within}
 use Rattle.gv_base.specs.declared.answers.Place.{Place}
@@ -37,18 +37,20 @@ use Rattle.std.specs.Prelude.{◌&&◌}
 use Rattle.gv_resources.proofs.Fitting.{retold, retold_test}
 use Rattle.gv_resources.proofs.Sums.{number_test}
 use Rattle.gv_assertions.specs.Atoms.{Owns, Instance, Predicate}
-use Rattle.gv_assertions.specs.Standing.{StandsFor, owns, both, valued}
-use Rattle.gv_assertions.proofs.Lists.{front, parted, more_for}
+use Rattle.gv_assertions.specs.Standing.{StandsFor, owns, both, none, valued, owned_key}
+use Rattle.gv_assertions.proofs.Lists.{front, parted, more_for, joined}
+use Rattle.gv_seats.specs.Paths.{Path, Bracket, number, goes_on, after_step}
+use Rattle.gv_seats.specs.Seats.{Proof, shape_of, Seat, Base, Target, CellAt, MapAt, AreOwned, IsInstance, is_marked, map_mark, of_locks}
+use Rattle.gv_seats.specs.Changes.{Nothing}
+use Rattle.gv_seats.specs.Soundness.{Goes, goes, waits, at_rest}
+use Rattle.gv_seats.proofs.Bases.{arrived, still_closed, consistent_objects}
 use Rattle.gv_seats.proofs.Instances.{at_values}
 use Rattle.gv_seats.proofs.Locals.{set_there, set_elsewhere, set_length}
 use Rattle.gv_seats.proofs.Telling.{under_same}
 use Rattle.gv_seats.proofs.Expressions.{expressions_law}
-use Rattle.gv_seats.proofs.Loads.{as_ref_is, ref_value}
-use Rattle.gv_seats.proofs.Steps.{resting, still_closed}
-use Rattle.gv_seats.specs.Paths.{Path, Bracket, number, goes_on, after_step}
-use Rattle.gv_seats.specs.Seats.{Proof, Seat, Base, AreOwned, IsInstance, is_marked, map_mark, of_locks}
-use Rattle.gv_seats.specs.Rules.{Goes, goes, waits, locks_mutex, unlocks_mutex}
-use Rattle.gv_seats.specs.Laws.{LocksLaw, UnlocksLaw}
+use Rattle.gv_rules.proofs.Loads.{as_ref_is, ref_value}
+use Rattle.gv_rules.specs.Rows.{locks_mutex, unlocks_mutex}
+use Rattle.gv_rules.specs.Laws.{LocksLaw, UnlocksLaw}
 use Rattle.gv_resources.proofs.Equality.{single_same, single_within}
 use Rattle.gv_resources.proofs.Fitting.{fits_add, fits_remove, fits_same}
 use Rattle.gv_resources.proofs.Sums.{changed, sum_split, sum_changed, with_piece, piece_there, piece_elsewhere}
@@ -250,16 +252,15 @@ module _ (w : World) (locks : ℕ → Piece) (n : ℕ) (b c : Bool) (h : HasMute
 
 base_with_mutex : (o : Proof) (w : World) (g : Ghost) (m : Mode) (bracket : Bracket) (piece later pool : Piece) (locks : ℕ → Piece) (rest : Piece) (n : ℕ) (b c : Bool) (h : HasMutex w n b) (p : Piece)
     → Base o w g m bracket piece pool locks rest
-    → Fits (λ e. later e + (pool e + (of_locks (with_mutex w n c) (with_piece locks n p) e + rest e))) (told o.shape (with_mutex w n c) g)
+    → Fits (λ e. later e + (pool e + (of_locks (with_mutex w n c) (with_piece locks n p) e + rest e))) (told (shape_of o) (with_mutex w n c) g)
     → (c ≡ false → (guard : ℕ × List Value) → g.guards n ≡ Some guard → IsInstance o.preds guard.0 guard.1 p)
     → Base o (with_mutex w n c) g m (after_step bracket) later pool (with_piece locks n p) rest
 base_with_mutex o w g m bracket piece later pool locks rest n b c h p base fits own = record {
   fits = fits;
+  mode = base.mode;
   crash = λ shared closed. base.crash shared (still_closed bracket closed);
   free = free;
-  fresh = λ object l. base.fresh object (let k = objects_as_many w n b c h in omega arith);
-  blocks = record { as_many = base.blocks.as_many; same = base.blocks.same; long = base.blocks.long; whole = base.blocks.whole };
-  walked = base.walked;
+  consistent = consistent_objects o w g (with_mutex w n c).objects (objects_as_many w n b c h) base.consistent;
 }
   where
     free : (object : ℕ) (guard : ℕ × List Value) → g.guards object ≡ Some guard → locked_in (object_at (with_mutex w n c) object) ≡ Some false
@@ -276,16 +277,15 @@ base_with_mutex o w g m bracket piece later pool locks rest n b c h p base fits 
     ]
 
 still_owned : (w : World) (n : ℕ) (b c : Bool) (h : HasMutex w n b) (rest : Piece) → AreOwned w rest → AreOwned (with_mutex w n c) rest
-still_owned w n b c h rest still = record {
-  cells = λ object place m. still.cells object place (sym (ap (λ x. is_marked (slice_get x place)) (kept_by w n b c h cells_in refl object)) ∙ m);
-  maps = λ object m. still.maps object (sym (kept_by w n b c h map_mark refl object) ∙ m);
-}
+still_owned w n b c h rest still (CellAt object place) m = still (CellAt object place) (sym (ap (λ x. is_marked (slice_get x place)) (kept_by w n b c h cells_in refl object)) ∙ m)
+still_owned w n b c h rest still (MapAt object) m = still (MapAt object) (sym (kept_by w n b c h map_mark refl object) ∙ m)
 
 -- ---- Lock
 
-owned_at : {preds : List Predicate} {env : Env} {k : Kind} {object : TermTree} {values : List TermTree} {p : Piece} → StandsFor preds env (Owns k (object ∷ []) values) p
+owned_at : {preds : List Predicate} {env : Env} {k : Kind} {object : TermTree} {values : List TermTree} {p : Piece}
+    → owned_key k (value_under env object ∷ []) ≡ value_under env object ∷ [] → StandsFor preds env (Owns k (object ∷ []) values) p
     → 0 < p (Have k (value_under env object ∷ []) (valued env values))
-owned_at (owns has) = has
+owned_at {env = env} {k = k} {values = values} {p = p} same (owns has) = subst (λ (key : List Value). 0 < p (Have k key (valued env values))) same has
 
 object_key : (x : Value) (n : ℕ) → x ≡ val.Ref n → x ∷ [] ≡ val.Ref n ∷ []
 object_key x n e = ap (λ (y : Value). y ∷ []) e
@@ -297,23 +297,27 @@ held_stands : (preds : List Predicate) (env : Env) (object : TermTree) (n : ℕ)
 held_stands preds env object n is =
     owns (subst (λ (x : Value). 0 < single (Have kind.Held (val.Ref n ∷ []) []) (Have kind.Held (x ∷ []) [])) (sym is) (let s = single_same (Have kind.Held (val.Ref n ∷ []) []) in omega arith))
 
+-- the path behind a lock
+abbrev pub locked_path : Path → Todo → TermTree → ℕ → List TermTree → Path
+locked_path h next object pred args = goes_on h next h.locals (h.atoms ++ Instance pred args ∷ Owns kind.Held (object ∷ []) [] ∷ [])
+
 -- the step of a mutex that guards this, locked or not
 locking : (o : Proof) (h : Path) (m : Expr) (object : TermTree) (pred : ℕ) (args : List TermTree) (place : Place) (next : Todo) → h.todo ≡ Run (Do (Lock m) place) ∷ next
-    → (program : Program) (extra : ℕ) (w : World) (g : Ghost) (f : Frame) (below : List Frame) (rest : Piece) → (seat : Seat o w g f h rest) → (n : ℕ)
+    → (program : Program) (extra : ℕ) (w : World) (g : Ghost) (start : Env) (f : Frame) (below : List Frame) (rest : Piece) → (seat : Seat o w g start f h rest) → (n : ℕ)
     → value_under seat.env object ≡ val.Ref n → value f.locals m ≡ Some (stored.Ref n) → (locked : Bool) → (a : Guarded w g n pred (valued seat.env args)) → a.locked ≡ locked
-    → Goes o g below (goes_on h next h.locals (Instance pred args ∷ Owns kind.Held (object ∷ []) [] ∷ h.atoms)) rest (stepped program extra (resting f below) w)
-locking o h m object pred args place next todo program extra w g f below rest seat n object_is m_value true a e =
+    → Goes o g start below h (locked_path h next object pred args ∷ []) rest Nothing (stepped program extra (at_rest f below) w)
+locking o h m object pred args place next todo program extra w g start f below rest seat n object_is m_value true a e =
     let mutex : HasMutex w n true = subst (λ (b : Bool). HasMutex w n b) e a.there in
     let step = lock_step program extra w f below m place next n m_value Blocked Blocked (seat.described.todo ∙ todo) (waits_locked w n mutex) refl in
-    subst (λ (answer : Answer Stepped). Goes o g below (goes_on h next h.locals (Instance pred args ∷ Owns kind.Held (object ∷ []) [] ∷ h.atoms)) rest answer) (sym step) waits
-locking o h m object pred args place next todo program extra w g f below rest seat n object_is m_value false a e =
+    subst (λ (answer : Answer Stepped). Goes o g start below h (locked_path h next object pred args ∷ []) rest Nothing answer) (sym step) waits
+locking o h m object pred args place next todo program extra w g start f below rest seat n object_is m_value false a e =
     let mutex : HasMutex w n false = subst (λ (b : Bool). HasMutex w n b) e a.there in
     let after = with_mutex w n true in
     let step = lock_step program extra w f below m place next n m_value (Next after) (behind program extra w f below m place next n m_value after) (seat.described.todo ∙ todo) (locks_free w n mutex) refl in
     let held = single (Have kind.Held (val.Ref n ∷ []) []) in
     let later : Piece = λ r. held r + (seat.locks n r + seat.piece r) in
     let without : Piece = λ r. 0 in
-    let none_held : told o.shape w g kind.Held (val.Ref n ∷ []) ≡ None =
+    let none_held : told (shape_of o) w g kind.Held (val.Ref n ∷ []) ≡ None =
     ap (λ x. held_mutex x (g.guards n)) (ap locked_in (ap (object_at w) mutex.number ∙ mutex.there)) ∙ ap (held_mutex (Some false)) a.guards in
     let stands : StandsFor o.preds seat.env (Instance pred args) (seat.locks n) =
     subst (λ (k : ℕ). StandsFor o.preds seat.env (Instance k args) (seat.locks n)) a.is_pred
@@ -321,7 +325,8 @@ locking o h m object pred args place next todo program extra w g f below rest se
     let fits : Fits (λ r. later r + (seat.pool r + (of_locks after (with_piece seat.locks n without) r + rest r))) _ =
     fits_add kind.Held (val.Ref n ∷ []) [] seat.base.fits none_held (λ q. let z : Some 1 ≡ Some 0 = q in cc)
     (λ r. let x = locks_before w seat.locks n false true mutex without r in let y = locks_after w seat.locks n false true mutex without r in omega arith) in
-    subst (λ (answer : Answer Stepped). Goes o g below (goes_on h next h.locals (Instance pred args ∷ Owns kind.Held (object ∷ []) [] ∷ h.atoms)) rest answer) (sym step) (goes (record {
+    subst (λ (answer : Answer Stepped). Goes o g start below h (locked_path h next object pred args ∷ []) rest Nothing answer) (sym step)
+    (goes (arrived o after g start (record f { todo = next }) h (locked_path h next object pred args) rest refl (record {
       env = seat.env;
       piece = later;
       pool = seat.pool;
@@ -330,16 +335,19 @@ locking o h m object pred args place next todo program extra w g f below rest se
         todo = refl;
         as_many = seat.described.as_many;
         locals = seat.described.locals;
+        valuation = seat.described.valuation;
+        started = seat.described.started;
         facts = seat.described.facts;
-        stands = both (seat.locks n) (λ r. held r + seat.piece r) (λ r. omega arith) stands (both held seat.piece (λ r. omega arith) (held_stands o.preds seat.env object n object_is) seat.described.stands);
+        stands = joined {q = λ r. seat.locks n r + held r} (λ r. omega arith) seat.described.stands (both (seat.locks n) held (λ r. omega arith) stands
+            (both held (λ r. 0) (λ r. omega arith) (held_stands o.preds seat.env object n object_is) none));
       };
       base = base_with_mutex o w g h.mode h.bracket seat.piece later seat.pool seat.locks rest n false true mutex without seat.base
-          (fits_same (told_held o.shape g w n false true mutex a.guard a.guards) fits) (λ q guard is. absurd cc);
+          (fits_same (told_held (shape_of o) g w n false true mutex a.guard a.guards) fits) (λ q guard is. absurd cc);
       still = still_owned w n false true mutex rest seat.still;
-    }))
+    })))
 
 pub locks_law : LocksLaw
-locks_law o h k (locks_mutex m object pred args left place next todo term object_sort takes) program extra w g f below rest seat =
+locks_law o h k (locks_mutex m object pred args left place next may todo term object_sort takes) program extra w g start f below rest seat =
     let (ref, m_found, m_is) = expressions_law seat.env h.locals f.locals seat.described.locals m object sort.Ref term object_sort in
     let (n, object_is) = ref_value (value_under seat.env object) (values_have_sorts seat.env object sort.Ref object_sort) in
     let ref_is = as_ref_is ref n (m_is ∙ ap Some object_is) in
@@ -347,10 +355,10 @@ locks_law o h k (locks_mutex m object pred args left place next todo term object
     let (q, r, split, stands, others) = parted (front takes seat.described.stands) in
     let has : 0 < q (Have kind.Lock (val.Ref n ∷ []) (val.Word pred ∷ valued seat.env args)) =
     subst (λ (vs : List Value). 0 < q (Have kind.Lock (val.Ref n ∷ []) vs)) (first_is seat.env pred args)
-    (subst (λ (key : List Value). 0 < q (Have kind.Lock key (valued seat.env (number pred ∷ args)))) (object_key (value_under seat.env object) n object_is) (owned_at stands)) in
+    (subst (λ (key : List Value). 0 < q (Have kind.Lock key (valued seat.env (number pred ∷ args)))) (object_key (value_under seat.env object) n object_is) (owned_at refl stands)) in
     let within = split (Have kind.Lock (val.Ref n ∷ []) (val.Word pred ∷ valued seat.env args)) in
     let a = guarded w g n pred (valued seat.env args) (seat.base.fits.says kind.Lock (val.Ref n ∷ []) (val.Word pred ∷ valued seat.env args) (omega arith)) in
-    locking o h m object pred args place next todo program extra w g f below rest seat n object_is m_value a.locked a refl
+    locking o h m object pred args place next todo program extra w g start f below rest seat n object_is m_value a.locked a refl
 
 -- ---- Unlock
 
@@ -363,7 +371,7 @@ held_there w g n e = at (locked_in (object_at w n)) (g.guards n) refl e
     at (Some true) guard a e = has_mutex w n true a
 
 pub unlocks_law : UnlocksLaw
-unlocks_law o h k (unlocks_mutex m object pred args known without left place next todo term object_sort takes_lock takes_held takes_case) program extra w g f below rest seat =
+unlocks_law o h k (unlocks_mutex m object pred args known without left place next may todo term object_sort takes_lock takes_held takes_case) program extra w g start f below rest seat =
     let (ref, m_found, m_is) = expressions_law seat.env h.locals f.locals seat.described.locals m object sort.Ref term object_sort in
     let (n, object_is) = ref_value (value_under seat.env object) (values_have_sorts seat.env object sort.Ref object_sort) in
     let m_value : value f.locals m ≡ Some (stored.Ref n) = m_found ∙ ap Some (as_ref_is ref n (m_is ∙ ap Some object_is)) in
@@ -374,8 +382,8 @@ unlocks_law o h k (unlocks_mutex m object pred args known without left place nex
     let lock_value : List Value = val.Word pred ∷ valued seat.env args in
     let lock_has : 0 < q (Have kind.Lock key lock_value) =
     subst (λ (vs : List Value). 0 < q (Have kind.Lock (val.Ref n ∷ []) vs)) (first_is seat.env pred args)
-    (subst (λ (key : List Value). 0 < q (Have kind.Lock key (valued seat.env (number pred ∷ args)))) (object_key (value_under seat.env object) n object_is) (owned_at lock_stands)) in
-    let held_has : 0 < held (Have kind.Held key []) = subst (λ (key : List Value). 0 < held (Have kind.Held key [])) (object_key (value_under seat.env object) n object_is) (owned_at held_is) in
+    (subst (λ (key : List Value). 0 < q (Have kind.Lock key (valued seat.env (number pred ∷ args)))) (object_key (value_under seat.env object) n object_is) (owned_at refl lock_stands)) in
+    let held_has : 0 < held (Have kind.Held key []) = subst (λ (key : List Value). 0 < held (Have kind.Held key [])) (object_key (value_under seat.env object) n object_is) (owned_at refl held_is) in
     let lock_within = split (Have kind.Lock key lock_value) in
     let held_within = held_split (Have kind.Held key []) in
     let a = guarded w g n pred (valued seat.env args) (seat.base.fits.says kind.Lock key lock_value (omega arith)) in
@@ -386,7 +394,8 @@ unlocks_law o h k (unlocks_mutex m object pred args known without left place nex
     fits_remove kind.Held key [] None seat.base.fits refl
     (λ e. let x = locks_before w seat.locks n true false mutex case_piece e in let y = locks_after w seat.locks n true false mutex case_piece e in
     let l = held_split e in let m = case_split e in let s = single_within (Have kind.Held key []) held held_has e in omega arith) in
-    subst (λ (answer : Answer Stepped). Goes o g below (goes_on h next h.locals left) rest answer) (sym step) (goes (record {
+    subst (λ (answer : Answer Stepped). Goes o g start below h (goes_on h next h.locals left ∷ []) rest Nothing answer) (sym step)
+    (goes (arrived o after g start (record f { todo = next }) h (goes_on h next h.locals left) rest refl (record {
       env = seat.env;
       piece = u;
       pool = seat.pool;
@@ -395,15 +404,17 @@ unlocks_law o h k (unlocks_mutex m object pred args known without left place nex
         todo = refl;
         as_many = seat.described.as_many;
         locals = seat.described.locals;
+        valuation = seat.described.valuation;
+        started = seat.described.started;
         facts = seat.described.facts;
         stands = left_stand;
       };
       base = base_with_mutex o w g h.mode h.bracket seat.piece u seat.pool seat.locks rest n true false mutex case_piece seat.base
-          (fits_same (told_held o.shape g w n true false mutex a.guard a.guards) fits)
+          (fits_same (told_held (shape_of o) g w n true false mutex a.guard a.guards) fits)
           (λ free guard is env given values.
           let same : a.guard ≡ guard = some_same a.guard guard (sym a.guards ∙ is) in
           let is_pred : pred ≡ guard.0 = sym a.is_pred ∙ ap (λ (x : ℕ × List Value). x.0) same in
           let are_values : valued env given ≡ valued seat.env args = values ∙ sym (ap (λ (x : ℕ × List Value). x.1) same) ∙ a.are_values in
           subst (λ (k : ℕ). StandsFor o.preds env (Instance k given) case_piece) is_pred (at_values o.preds seat.env env pred args given case_piece are_values case_stands));
       still = still_owned w n true false mutex rest seat.still;
-    }))
+    })))

@@ -1,5 +1,5 @@
 -- Expressions have the values of their terms.
-use Rattle.std.proofs.Common.{◌≡◌, ℕ, Bool, true, false, ◌&&◌, nat_eq, if◌then◌else◌, eqb-true, List, [], ◌∷◌, Option, Some, None, refl, sym, ap, subst, ◌∙◌}
+use Rattle.std.proofs.Common.{◌≡◌, ℕ, Bool, true, false, ◌&&◌, nat_eq, if◌then◌else◌, List, [], ◌∷◌, Option, Some, None, refl, sym, ap, subst, ◌∙◌}
 use Rattle.std.specs.Prelude.{slice_get}
 use Rattle.gv_base.specs.declared.val.Val.{Val}
 use Rattle.gv_base.specs.declared.val.Val.TheVariants as stored
@@ -13,13 +13,14 @@ use Rattle.gv_terms.specs.declared.value.Env.{Env}
 use Rattle.gv_terms.specs.declared.value.Value.{Value}
 use Rattle.gv_terms.specs.declared.value.Value.TheVariants as val
 use Rattle.gv_terms.specs.Meaning.{operate}
-use Rattle.gv_terms.specs.Sorts.{sort_given, sort_number, sort_eq, takes}
+use Rattle.gv_terms.specs.Sorts.{sort_given, sort_eq, takes}
 use Rattle.gv_terms.specs.Trees.{sort_of, value_under, all_sorts, with_sorts}
 use Rattle.gv_terms.specs.Values.{sort_of_value, bool_eq}
 use Rattle.gv_terms.proofs.NodeSorts.{sort_apply}
 use Rattle.gv_terms.proofs.Valued.{value_apply}
 use Rattle.gv_terms.proofs.ValueSorts.{values_have_sorts}
 use Rattle.gv_world.specs.Slices.{same_truth}
+use Rattle.gv_instances.proofs.Sorts.{same_sort}
 use Rattle.gv_lang.specs.declared.pure.Unary.{Unary}
 use Rattle.gv_lang.specs.declared.pure.Unary.TheVariants as unary
 use Rattle.gv_lang.specs.declared.pure.Binary.{Binary}
@@ -44,39 +45,6 @@ pub record HasValue (found : Option Val) (x : Value) : Type 0 where
   pub is : plain v ≡ Some x
 
 -- ---- sorts
-
-sort_at : ℕ → Sort
-sort_at n =
-    if nat_eq n 0 then sort.Word else
-    if nat_eq n 1 then sort.Bool else
-    if nat_eq n 2 then sort.Bytes else
-    if nat_eq n 3 then sort.Words else
-    if nat_eq n 4 then sort.Refs else
-    if nat_eq n 5 then sort.Blocks else
-    if nat_eq n 6 then sort.MapWW else
-    if nat_eq n 7 then sort.MapWB else
-    if nat_eq n 8 then sort.Ref else
-    if nat_eq n 9 then sort.SliceS else
-    if nat_eq n 10 then sort.Call else
-    sort.Name
-
-sort_again : (s : Sort) → sort_at (sort_number s) ≡ s
-unfolding sort_at
-sort_again sort.Word = refl
-sort_again sort.Bool = refl
-sort_again sort.Bytes = refl
-sort_again sort.Words = refl
-sort_again sort.Refs = refl
-sort_again sort.Blocks = refl
-sort_again sort.MapWW = refl
-sort_again sort.MapWB = refl
-sort_again sort.Ref = refl
-sort_again sort.SliceS = refl
-sort_again sort.Call = refl
-sort_again sort.Name = refl
-
-same_sort : (r s : Sort) → sort_eq r s ≡ true → s ≡ r
-same_sort r s e = sym (sort_again s) ∙ ap sort_at (sym (eqb-true (sort_number r) (sort_number s) e)) ∙ sort_again r
 
 both_true : (a b : Bool) → (a && b) ≡ true → (a ≡ true) × (b ≡ true)
 both_true true b e = (refl, e)

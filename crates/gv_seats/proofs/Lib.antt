@@ -1,10 +1,8 @@
+pub mod Bases
 pub mod Expressions
-pub mod Locals
-pub mod Moves
-pub mod Steps
-pub mod Loads
-pub mod Objects
-pub mod Telling
-pub mod Stores
-pub mod Locks
+pub mod Extending
 pub mod Instances
+pub mod Locals
+pub mod Objects
+pub mod Owning
+pub mod Telling

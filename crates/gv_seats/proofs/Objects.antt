@@ -1,10 +1,10 @@
 -- One cell of the heap given anew.
 use Rattle.std.proofs.Common.{◌≡◌, ◌≢◌, ℕ, zero, suc, ◌+◌, ◌-◌, Bool, true, false, List, [], ◌∷◌, ◌++◌, length, Option, Some, None, refl, sym, ap, ◌∙◌, inl, inr, arith}
-use Rattle.std.specs.Prelude.{map, slice_get, slice_set, take, drop}
+use Rattle.std.specs.Prelude.{map, slice_get, slice_set, take, drop, nat_eq}
 use Rattle.std.proofs.lemmas.Option.{slice_get_within}
 use Rattle.gv_base.specs.declared.answer.Answer.{Answer}
 use Rattle.gv_base.specs.declared.answer.Answer.TheVariants.{Next}
-use Rattle.gv_base.specs.declared.reason.Reason.TheVariants.{OutOfRange}
+use Rattle.gv_base.specs.declared.reason.Reason.TheVariants.{NilUse, OutOfRange}
 use Rattle.gv_base.specs.declared.val.Val.{Val}
 use Rattle.gv_world.specs.declared.cell.Cell.{Cell}
 use Rattle.gv_world.specs.Answers.{and_then, undefined_if}
@@ -14,7 +14,21 @@ use Rattle.gv_world.specs.Cells.{as_cells, cells_of, run, is_short, unmarked, as
 use Rattle.gv_resources.specs.Told.{object_at, cells_in}
 use Rattle.gv_resources.proofs.Sums.{number_test}
 use Rattle.gv_seats.proofs.Locals.{set_there, set_elsewhere, set_length}
-use Rattle.gv_seats.proofs.Loads.{one_run, cells_are}
+
+-- ---- the cells of an object
+
+-- the run of one cell
+pub one_run : (cells : List Cell) (place : ℕ) (c : Cell) → slice_get cells place ≡ Some c → run cells place 1 ≡ c ∷ []
+one_run [] place c e = absurd cc
+one_run (d ∷ cells) zero c e = cc
+one_run (d ∷ cells) (suc place) c e = one_run cells place c e
+
+numbered : (w : World) (object n : ℕ) (is_nil : Bool) → is_nil ≡ false → object - 1 ≡ n → undefined_if is_nil NilUse (as_cells (slice_get w.objects (object - 1))) ≡ as_cells (slice_get w.objects n)
+numbered w object n false e d = ap (λ k. as_cells (slice_get w.objects k)) d
+numbered w object n true e d = absurd cc
+
+pub cells_are : (w : World) (n : ℕ) → cells_of w (suc n) ≡ as_cells (slice_get w.objects n)
+cells_are w n = numbered w (suc n) n (nat_eq (suc n) 0) (grind arith) (omega arith)
 
 -- an object that has this cell
 pub record HasCell (w : World) (object place : ℕ) (c : Cell) : Type 0 where

@@ -1,4 +1,6 @@
 pub mod Paths
 pub mod Seats
-pub mod Rules
+pub mod Scoping
+pub mod Changes
+pub mod Soundness
 pub mod Laws

@@ -1,5 +1,5 @@
 -- What a path of a proof knows when a frame stands at a command.
-use Rattle.std.specs.Prelude.{ℕ, true, false, List, [], ◌∷◌, Option, Some, None, slice_get}
+use Rattle.std.specs.Prelude.{ℕ, Bool, true, false, List, [], ◌∷◌, Option, Some, None, slice_get}
 use Rattle.gv_terms.specs.declared.operator.Operator.{Operator}
 use Rattle.gv_terms.specs.declared.operator.Operator.TheVariants as op
 use Rattle.gv_terms.specs.declared.tree.TermTree.{TermTree}
@@ -12,13 +12,35 @@ use Rattle.gv_lang.specs.declared.pure.Binary.TheVariants as binary
 use Rattle.gv_lang.specs.Tree.{Expr, Number, Truth, Nil, NilSlice, LocalAt, One, Two}
 use Rattle.gv_lang.specs.Todo.{Todo}
 use Rattle.gv_resources.specs.Ghost.{Mode}
-use Rattle.gv_assertions.specs.Atoms.{Atom}
+use Rattle.gv_assertions.specs.Atoms.{Atom, Item}
 
 -- whether the crash invariant is opened: then for one step
 pub data Bracket : Type 0 where
   Closed : Bracket
   Opened : Bracket
   Used : Bracket
+
+-- what a procedure is there for
+pub data Role : Type 0 where
+  -- recovery, whose return is the boot
+  Recovers : Role
+  -- an operation, whose return is the answer of a call
+  Operates : Role
+  -- others call or spawn it
+  Serves : Role
+
+-- what a procedure asks and promises
+pub record Procedure : Type 0 where
+  pub role : Role
+  pub mode : Mode
+  -- the variables that its block starts with, which keep their values; and what it is given
+  pub start : List Var
+  pub given : List Item
+  -- the variables of its results, and what it owes of them when it returns
+  pub results : List Var
+  pub owed : List Item
+  -- in own mode what a crash must find
+  pub crash : Option Atom
 
 pub record Path : Type 0 where
   -- what the frame has still to do
@@ -30,6 +52,12 @@ pub record Path : Type 0 where
   pub atoms : List Atom
   pub mode : Mode
   pub bracket : Bracket
+  -- whether recovery has run boot, and whether a step was made since the block began
+  pub booted : Bool
+  pub stepped : Bool
+  -- in own mode the crash block that stands, by the number of its command; 0 is the empty one
+  pub standing : ℕ
+  pub procedure : Procedure
 
 -- ---- the terms of expressions
 
@@ -89,4 +117,4 @@ after_step Opened = Used
 after_step Used = Used
 
 abbrev pub goes_on : Path → Todo → List (Option TermTree) → List Atom → Path
-goes_on h rest locals atoms = record h { todo = rest; locals = locals; atoms = atoms; bracket = after_step h.bracket }
+goes_on h rest locals atoms = record h { todo = rest; locals = locals; atoms = atoms; bracket = after_step h.bracket; stepped = true }

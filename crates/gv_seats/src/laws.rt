@@ -1,48 +1,18 @@
 //! Laws of the definitions in this crate. Each function does nothing: its contract is the law.
 
-ghost use Rattle.gv_seats.specs.Laws.{ClosesLaw, CopiesLaw, ExpressionsLaw, LetsLaw, LoadsLaw, LocksLaw, OpensLaw, StoresLaw, UnlocksLaw};
+ghost use Rattle.gv_seats.specs.Laws.{BegunLaw, ExpressionsLaw, SeatsLaw};
 
 /// An expression over locals has the value of its term.
 pub fn expression_values()
     ensures { ExpressionsLaw }
 {}
 
-/// What is persistent may be copied.
-pub fn copies_sound()
-    ensures { CopiesLaw }
+/// A frame at its seat meets no write of others in what it owns, and finds the invariants that nobody has taken.
+pub fn seats()
+    ensures { SeatsLaw }
 {}
 
-/// In shared mode the crash invariant may be opened.
-pub fn opens_sound()
-    ensures { OpensLaw }
-{}
-
-/// It is closed where it holds again.
-pub fn closes_sound()
-    ensures { ClosesLaw }
-{}
-
-/// Setting a local is sound beside every rest.
-pub fn lets_sound()
-    ensures { LetsLaw }
-{}
-
-/// Reading a cell that is owned or read-only is sound beside every rest.
-pub fn loads_sound()
-    ensures { LoadsLaw }
-{}
-
-/// Writing a cell that is owned is sound beside every rest, in both of its steps: others may step in between.
-pub fn stores_sound()
-    ensures { StoresLaw }
-{}
-
-/// Locking a mutex waits, or gives what the mutex guards, whatever others own.
-pub fn locks_sound()
-    ensures { LocksLaw }
-{}
-
-/// Unlocking a mutex that is held is never undefined, and gives up what the mutex guards.
-pub fn unlocks_sound()
-    ensures { UnlocksLaw }
+/// In the middle of a write others meet it in nothing that they own.
+pub fn begun_writes()
+    ensures { BegunLaw }
 {}

@@ -3,7 +3,4 @@
 
 mod laws;
 
-pub use laws::{
-    closes_sound, copies_sound, expression_values, lets_sound, loads_sound, locks_sound,
-    opens_sound, stores_sound, unlocks_sound,
-};
+pub use laws::{begun_writes, expression_values, seats};

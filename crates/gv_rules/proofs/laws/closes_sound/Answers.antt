@@ -1,5 +1,5 @@
-use Rattle.gv_seats.proofs.Moves.{closes_law}
-use Rattle.gv_seats.proofs.laws.closes_sound.Goals as goal
+use Rattle.gv_rules.proofs.Moves.{closes_law}
+use Rattle.gv_rules.proofs.laws.closes_sound.Goals as goal
 
 pub returns : goal.returns
 returns c = closes_law

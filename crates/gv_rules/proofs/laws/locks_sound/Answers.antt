@@ -1,5 +1,5 @@
-use Rattle.gv_seats.proofs.Locks.{locks_law}
-use Rattle.gv_seats.proofs.laws.locks_sound.Goals as goal
+use Rattle.gv_rules.proofs.Locks.{locks_law}
+use Rattle.gv_rules.proofs.laws.locks_sound.Goals as goal
 
 pub returns : goal.returns
 returns c = locks_law

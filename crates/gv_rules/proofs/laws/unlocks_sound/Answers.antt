@@ -1,5 +1,5 @@
-use Rattle.gv_seats.proofs.Locks.{unlocks_law}
-use Rattle.gv_seats.proofs.laws.unlocks_sound.Goals as goal
+use Rattle.gv_rules.proofs.Locks.{unlocks_law}
+use Rattle.gv_rules.proofs.laws.unlocks_sound.Goals as goal
 
 pub returns : goal.returns
 returns c = unlocks_law

@@ -1,0 +1,5 @@
+pub mod Moves
+pub mod Steps
+pub mod Loads
+pub mod Stores
+pub mod Locks
