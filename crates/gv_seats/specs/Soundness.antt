@@ -14,7 +14,7 @@ use Rattle.gv_lang.specs.Step.{Stepped, GoesOn, stepped, returned, assigned}
 use Rattle.gv_resources.specs.Pieces.{Resource, Piece}
 use Rattle.gv_resources.specs.Ghost.{Ghost}
 use Rattle.gv_assertions.specs.Atoms.{facts_of, atoms_of}
-use Rattle.gv_assertions.specs.Standing.{StandForAll, AreTrueUnder, names_of}
+use Rattle.gv_assertions.specs.Standing.{StandForAll, AreTrueUnder, AreValuesOf, names_of}
 use Rattle.gv_instances.specs.Instances.{Given, given_under}
 use Rattle.gv_instances.specs.Agreeing.{AgreeOnVars}
 use Rattle.gv_seats.specs.Paths.{Path, Procedure}
@@ -105,8 +105,9 @@ pub data ArePlain : List Val → List Value → Type 0 where
 abbrev pub with_results : Procedure → List Value → Env → Env
 with_results p results start = binds (bound (names_of p.results) results ++ start.bindings)
 
--- a piece stands for what a procedure owes of its results
+-- the results are values of their variables' sorts, and a piece stands for what a procedure owes of them
 pub record Owed (o : Proof) (p : Procedure) (start : Env) (results : List Value) (part : Piece) : Type 0 where
+  pub values : AreValuesOf p.results results
   pub facts : AreTrueUnder (with_results p results start) (facts_of p.owed)
   pub stands : StandForAll o.preds (with_results p results start) (atoms_of p.owed) part
 
