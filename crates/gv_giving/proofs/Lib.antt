@@ -1,0 +1,4 @@
+pub mod Givens
+pub mod Entering
+pub mod Returning
+pub mod Folding
