@@ -1,5 +1,5 @@
 -- Which values variables may have. Words have their width and lists their length; objects and calls are as many as there are, and names as long.
-use Rattle.std.specs.Prelude.{ℕ, ◌+◌, ◌<◌, ◌≤◌, length}
+use Rattle.std.specs.Prelude.{◌+◌, ◌<◌, ◌≤◌, length}
 use Rattle.std.specs.List.{All}
 use Rattle.gv_base.specs.declared.slice_val.SliceVal.{SliceVal}
 use Rattle.gv_words.specs.Words.{words}

@@ -1,5 +1,5 @@
 -- When a piece stands for assertions under a valuation. It may own more than they say.
-use Rattle.std.specs.Prelude.{◌≡◌, ◌≢◌, ℕ, ◌+◌, ◌<◌, ◌≤◌, Bool, true, false, List, [], ◌∷◌, ◌++◌, Option, Some, None, map, length, slice_get}
+use Rattle.std.specs.Prelude.{◌≡◌, ◌≢◌, ℕ, ◌+◌, ◌<◌, ◌≤◌, Bool, true, List, [], ◌∷◌, ◌++◌, Option, Some, None, map, length, slice_get}
 use Rattle.gv_base.specs.declared.slice_val.SliceVal.{SliceVal}
 use Rattle.gv_terms.specs.declared.tree.TermTree.{TermTree}
 use Rattle.gv_terms.specs.declared.value.Value.{Value}

@@ -25,9 +25,9 @@ use Rattle.gv_resources.specs.Pieces.{Have, Piece, sum_below}
 use Rattle.gv_assertions.specs.Atoms.{Atom, Owns, Slice, Spare, Instance, Each, Predicate, facts_of, atoms_of}
 use Rattle.gv_assertions.specs.Standing.{StandsFor, StandForAll, owns, slice, spare, instance, each, none, both, valued, owned_key, indexed, IsNoneOf, OwnsSlice, OwnsSpare, AreTrueUnder, case_env}
 use Rattle.gv_instances.specs.Instances.{stands_in}
-use Rattle.gv_instances.specs.Agreeing.{AgreeOn, AgreeOnAll, AgreeOnAtom, AgreeOnAtoms, AgreeOnVars, AreClosed, number_var, IsClosedAtom, AreClosedAtoms}
+use Rattle.gv_instances.specs.Agreeing.{AgreeOnAll, AgreeOnAtom, AgreeOnAtoms, AgreeOnVars, AreClosed, number_var, IsClosedAtom, AreClosedAtoms}
 use Rattle.gv_instances.specs.Laws.{SameStandLaw, ClosedLaw}
-use Rattle.gv_instances.proofs.Sorts.{same_sort, sort_itself}
+use Rattle.gv_instances.proofs.Sorts.{same_sort}
 use Rattle.gv_instances.proofs.Trees.{agreement_law, found_first, stands_variable, stands_apply}
 
 -- ---- assertions

@@ -1,5 +1,5 @@
 -- Assertions that are alike but for the names of bound numbers.
-use Rattle.std.proofs.Common.{◌≡◌, ℕ, Bool, true, false, ◌&&◌, if◌then◌else◌, List, [], ◌∷◌, Some, refl, sym, ap, subst, ◌∙◌}
+use Rattle.std.proofs.Common.{◌≡◌, ℕ, Bool, true, false, ◌&&◌, if◌then◌else◌, List, [], ◌∷◌, refl, sym, ap, subst, ◌∙◌}
 use Rattle.std.specs.Str.{bytes_eq}
 use Rattle.std.proofs.lemmas.Slice.Eq.{bytes_eq-Decides}
 use Rattle.gv_terms.specs.declared.sort.Sort.{Sort}
@@ -11,15 +11,15 @@ use Rattle.gv_terms.specs.declared.value.Env.{Env}
 use Rattle.gv_terms.specs.declared.value.Value.{Value}
 use Rattle.gv_terms.specs.declared.value.Value.TheVariants as val
 use Rattle.gv_terms.specs.Values.{has_sort}
-use Rattle.gv_terms.specs.Trees.{sort_of, looked_up, value_under}
+use Rattle.gv_terms.specs.Trees.{looked_up, value_under}
 use Rattle.gv_terms.proofs.NodeSorts.{sort_variable}
 use Rattle.gv_terms.proofs.Valued.{value_variable}
 use Rattle.gv_resources.specs.Pieces.{Piece}
-use Rattle.gv_assertions.specs.Atoms.{Atom, Owns, Slice, Spare, Instance, Each, Predicate}
+use Rattle.gv_assertions.specs.Atoms.{Atom, Owns, Slice, Spare, Instance, Each}
 use Rattle.gv_assertions.specs.Standing.{StandsFor, each, indexed}
-use Rattle.gv_instances.specs.Instances.{AreSorted, put_in_atom, stands_in, binding_of, given_under}
-use Rattle.gv_instances.specs.Agreeing.{AgreeOn, AgreeOnAll, AgreeOnAtom, number_var}
-use Rattle.gv_instances.specs.Alike.{renaming, AreFree, IsFreeOf, AreAlike, itself, renamed}
+use Rattle.gv_instances.specs.Instances.{AreSorted, put_in_atom, stands_in, given_under}
+use Rattle.gv_instances.specs.Agreeing.{AgreeOn, AgreeOnAll, AgreeOnAtom}
+use Rattle.gv_instances.specs.Alike.{renaming, AreFree, IsFreeOf, itself, renamed}
 use Rattle.gv_instances.specs.Laws.{AlikeLaw}
 use Rattle.gv_instances.proofs.Sorts.{same_sort}
 use Rattle.gv_instances.proofs.Trees.{found_first}

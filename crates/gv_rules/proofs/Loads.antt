@@ -1,10 +1,9 @@
 -- Reading a cell that is owned or read-only.
-use Rattle.std.proofs.Common.{◌≡◌, ℕ, zero, suc, ◌+◌, ◌-◌, ◌<◌, ◌≤◌, Bool, true, false, List, [], ◌∷◌, Option, Some, None, refl, sym, ap, subst, ◌∙◌, inl, inr, arith}
-use Rattle.std.specs.Prelude.{slice_get, slice_set, nat_eq}
+use Rattle.std.proofs.Common.{◌≡◌, ℕ, zero, suc, ◌+◌, ◌<◌, ◌≤◌, Bool, true, false, List, [], ◌∷◌, Option, Some, None, refl, sym, ap, subst, ◌∙◌, inl, inr, arith}
+use Rattle.std.specs.Prelude.{slice_get, slice_set}
 use Rattle.gv_base.specs.declared.answers.Place.{Place}
 use Rattle.gv_base.specs.declared.answer.Answer.{Answer}
 use Rattle.gv_base.specs.declared.answer.Answer.TheVariants.{Next}
-use Rattle.gv_base.specs.declared.reason.Reason.TheVariants.{NilUse}
 use Rattle.gv_base.specs.declared.val.Val.{Val}
 use Rattle.gv_base.specs.declared.val.Val.TheVariants as stored
 use Rattle.gv_terms.specs.declared.sort.Sort.{Sort}
@@ -19,10 +18,10 @@ use Rattle.gv_terms.specs.Values.{sort_of_value}
 use Rattle.gv_terms.proofs.Valued.{value_apply}
 use Rattle.gv_terms.proofs.ValueSorts.{values_have_sorts}
 use Rattle.gv_world.specs.declared.cell.Cell.{Cell}
-use Rattle.gv_world.specs.Answers.{and_then, undefined_if}
+use Rattle.gv_world.specs.Answers.{and_then}
 use Rattle.gv_world.specs.Store as world
 use Rattle.gv_world.specs.Store.{Object, Store as World}
-use Rattle.gv_world.specs.Cells.{as_cells, cells_of, run, unmarked, as_read, first_value, read_cell}
+use Rattle.gv_world.specs.Cells.{as_cells, run, unmarked, as_read, first_value, read_cell}
 use Rattle.gv_lang.specs.Tree.{Expr, Load, Do, Program}
 use Rattle.gv_lang.specs.Todo.{Todo, Run}
 use Rattle.gv_lang.specs.Threads.{Frame}
@@ -51,7 +50,7 @@ use Rattle.gv_rules.proofs.Steps.{with_local, left_with, seat_set}
 
 -- ---- what is told of a cell
 
-only_if_is : {A : Type 0} (test : Bool) (x : Option A) (v : A) → only_if test x ≡ Some v → x ≡ Some v
+pub only_if_is : {A : Type 0} (test : Bool) (x : Option A) (v : A) → only_if test x ≡ Some v → x ≡ Some v
 only_if_is true x v e = e
 only_if_is false x v e = absurd cc
 
@@ -64,7 +63,7 @@ pub record Found (w : World) (object place : ℕ) (x : Value) : Type 0 where
 one_value : (x y : Value) → Some (x ∷ []) ≡ Some (y ∷ []) → x ≡ y
 one_value x y e = cc
 
-found_in : (w : World) (object place : ℕ) (x : Value) (found : Option Cell) → found ≡ slice_get (cells_in (object_at w object)) place → in_cell found ≡ Some (x ∷ [])
+pub found_in : (w : World) (object place : ℕ) (x : Value) (found : Option Cell) → found ≡ slice_get (cells_in (object_at w object)) place → in_cell found ≡ Some (x ∷ [])
     → Found w object place x
 found_in w object place x None is e = absurd cc
 found_in w object place x (Some c) is e = record { cell = c; there = sym is; is = one_value (value_of c.value) x e }

@@ -40,7 +40,7 @@ use Rattle.gv_assertions.specs.Atoms.{Owns, Instance, Predicate}
 use Rattle.gv_assertions.specs.Standing.{StandsFor, owns, both, none, valued, owned_key}
 use Rattle.gv_assertions.proofs.Lists.{front, parted, more_for, joined}
 use Rattle.gv_seats.specs.Paths.{Path, Bracket, number, goes_on, after_step}
-use Rattle.gv_seats.specs.Seats.{Proof, shape_of, Seat, Base, Target, CellAt, MapAt, AreOwned, IsInstance, is_marked, map_mark, of_locks}
+use Rattle.gv_seats.specs.Seats.{Proof, shape_of, Seat, Base, CellAt, MapAt, AreOwned, IsInstance, is_marked, map_mark, of_locks}
 use Rattle.gv_seats.specs.Changes.{Nothing}
 use Rattle.gv_seats.specs.Soundness.{Goes, goes, waits, at_rest}
 use Rattle.gv_seats.proofs.Bases.{arrived, still_closed, consistent_objects}

@@ -1,15 +1,14 @@
 -- What stays around a frame when it moves or steps.
-use Rattle.std.proofs.Common.{◌≡◌, ◌≢◌, ℕ, suc, ◌+◌, ◌<◌, Bool, true, false, List, [], ◌∷◌, length, Option, Some, refl, sym, ap, subst, ◌∙◌, arith}
-use Rattle.std.specs.Prelude.{slice_get}
+use Rattle.std.proofs.Common.{◌≡◌, ℕ, ◌+◌, List, [], ◌∷◌, length, refl, arith}
 use Rattle.gv_terms.specs.declared.value.Env.{Env}
 use Rattle.gv_world.specs.Store.{Object, Store as World}
 use Rattle.gv_lang.specs.Threads.{Frame}
-use Rattle.gv_resources.specs.Pieces.{Resource, Piece, Fits, sum_below}
+use Rattle.gv_resources.specs.Pieces.{Piece, Fits}
 use Rattle.gv_resources.specs.Ghost.{Ghost, Mode}
 use Rattle.gv_resources.specs.Told.{told}
 use Rattle.gv_seats.specs.Paths.{Path, Bracket, Closed, Opened, Used, after_step}
-use Rattle.gv_seats.specs.Seats.{Proof, shape_of, Seat, Base, IsConsistent, Target, CellAt, MapAt, AreOwned, IsMarked, OwnsTarget, of_locks}
-use Rattle.gv_seats.specs.Changes.{Change, Nothing, Changed}
+use Rattle.gv_seats.specs.Seats.{Proof, shape_of, Seat, Base, IsConsistent, Target, AreOwned, IsMarked, of_locks}
+use Rattle.gv_seats.specs.Changes.{Nothing, Changed}
 use Rattle.gv_seats.specs.Soundness.{Arrives}
 
 pub still_closed : (b : Bracket) → after_step b ≡ Closed → b ≡ Closed
@@ -48,6 +47,7 @@ consistent_objects o w g objects as_many c = record {
   fresh = λ object l. c.fresh object (let k = as_many in omega arith);
   blocks = record { as_many = c.blocks.as_many; sized = c.blocks.sized; same = c.blocks.same; long = c.blocks.long; whole = c.blocks.whole };
   failures = record { one = c.failures.one; of_two = c.failures.of_two };
+  fields = c.fields;
   names = c.names;
   walked = c.walked;
 }

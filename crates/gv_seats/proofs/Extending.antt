@@ -6,10 +6,8 @@ use Rattle.std.proofs.lemmas.Slice.Eq.{bytes_eq-Decides}
 use Rattle.gv_base.specs.declared.val.Val.{Val}
 use Rattle.gv_terms.specs.declared.sort.Sort.{Sort}
 use Rattle.gv_terms.specs.declared.tree.TermTree.{TermTree}
-use Rattle.gv_terms.specs.declared.value.Binding.{Binding}
 use Rattle.gv_terms.specs.declared.value.Env.{Env}
 use Rattle.gv_terms.specs.declared.value.Value.{Value}
-use Rattle.gv_terms.specs.declared.value.Value.TheVariants as val
 use Rattle.gv_terms.specs.declared.var.Var.{Var}
 use Rattle.gv_terms.specs.Scopes.{is_among, is_closed}
 use Rattle.gv_terms.specs.Values.{has_sort}
@@ -25,8 +23,8 @@ use Rattle.gv_instances.specs.Agreeing.{AgreeOnVars, AreClosed}
 use Rattle.gv_instances.proofs.Agreeing.{closed_law}
 use Rattle.gv_instances.proofs.Trees.{found_first}
 use Rattle.gv_seats.specs.Paths.{Path}
-use Rattle.gv_seats.specs.Seats.{Described, HaveValues, plain}
-use Rattle.gv_seats.specs.Scoping.{IsScoped, AreNew, variable}
+use Rattle.gv_seats.specs.Seats.{Described, HaveValues}
+use Rattle.gv_seats.specs.Scoping.{IsScoped, variable}
 
 -- ---- one more variable
 

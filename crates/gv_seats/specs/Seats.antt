@@ -116,6 +116,8 @@ pub record IsConsistent (o : Proof) (w : World) (g : Ghost) : Type 0 where
   pub fresh : (object : ℕ) → length w.objects < object → IsUntouched g object
   pub blocks : AreShadows o w g
   pub failures : FailAlone w.disks
+  -- there are as many fields as the proof says
+  pub fields : length g.walk.fields ≡ length o.leased
   -- no halves have a name that is as long as names may be chosen from now on
   pub names : (name : List ℕ) → g.named ≤ length name → g.halves name ≡ None
   pub walked : Walked o.atomic g

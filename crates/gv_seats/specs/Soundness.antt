@@ -5,7 +5,6 @@ use Rattle.gv_base.specs.declared.answer.Answer.TheVariants.{Next, Blocked}
 use Rattle.gv_base.specs.declared.val.Val.{Val}
 use Rattle.gv_terms.specs.declared.value.Value.{Value}
 use Rattle.gv_terms.specs.declared.value.Env.{Env}
-use Rattle.gv_terms.specs.declared.var.Var.{Var}
 use Rattle.gv_atomic.specs.Choices.{bound, binds}
 use Rattle.gv_world.specs.Store.{Store as World}
 use Rattle.gv_lang.specs.Tree.{Program}
