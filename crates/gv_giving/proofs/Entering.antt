@@ -1,5 +1,5 @@
 -- A frame that begins a procedure stands at the path where its block begins: calls, and new threads.
-use Rattle.std.proofs.Common.{◌≡◌, ℕ, zero, suc, ◌+◌, ◌≤◌, Bool, true, false, List, [], ◌∷◌, ◌++◌, map, drop, length, Option, Some, None, refl, sym, ap, subst, ◌∙◌, arith}
+use Rattle.std.proofs.Common.{◌≡◌, ℕ, zero, suc, ◌+◌, ◌≤◌, true, List, [], ◌∷◌, ◌++◌, map, drop, length, Option, Some, None, refl, sym, ap, subst, ◌∙◌, arith}
 use Rattle.std.specs.Prelude.{slice_get}
 use Rattle.gv_base.specs.declared.answers.Place.{Place}
 use Rattle.gv_base.specs.declared.answer.Answer.{Answer}
@@ -8,33 +8,31 @@ use Rattle.gv_base.specs.declared.val.Val.{Val}
 use Rattle.gv_terms.specs.declared.tree.TermTree.{TermTree}
 use Rattle.gv_terms.specs.declared.value.Env.{Env}
 use Rattle.gv_terms.specs.declared.var.Var.{Var}
-use Rattle.gv_terms.specs.Trees.{value_under}
 use Rattle.gv_world.specs.Answers.{and_then}
 use Rattle.gv_world.specs.Store.{Store as World}
 use Rattle.gv_lang.specs.declared.program.Local.{Local}
 use Rattle.gv_lang.specs.Tree as lang
 use Rattle.gv_lang.specs.Tree.{Expr, Do, Proc, Program}
 use Rattle.gv_lang.specs.Todo.{Todo, Run}
-use Rattle.gv_lang.specs.Threads.{Frame, Thread, zero_of, new_frame, thread_of}
+use Rattle.gv_lang.specs.Threads.{Frame, zero_of, new_frame, thread_of}
 use Rattle.gv_lang.specs.Table.{Effect, Pushes, Starts, as_values, enters}
 use Rattle.gv_lang.specs.Values.{values}
 use Rattle.gv_lang.specs.Step.{Stepped, GoesOn, stepped, settled}
 use Rattle.gv_resources.specs.Pieces.{Resource, Piece}
 use Rattle.gv_resources.specs.Ghost.{Ghost}
 use Rattle.gv_resources.proofs.Fitting.{fits_less}
-use Rattle.gv_assertions.specs.Atoms.{Atom, Predicate, facts_of, atoms_of}
-use Rattle.gv_assertions.specs.Standing.{StandForAll, AreParts, AreTrueUnder}
-use Rattle.gv_instances.specs.Instances.{Given, AreSorted, put_in, put_in_all, put_in_atoms, given_under}
+use Rattle.gv_assertions.specs.Atoms.{Atom, facts_of, atoms_of}
+use Rattle.gv_assertions.specs.Standing.{StandForAll, AreTrueUnder}
+use Rattle.gv_instances.specs.Instances.{Given, AreSorted, put_in_all, given_under}
 use Rattle.gv_instances.specs.Agreeing.{AgreeOnVars, AreClosed}
 use Rattle.gv_instances.proofs.Agreeing.{closed_law}
 use Rattle.gv_instances.proofs.Assertions.{all_out}
 use Rattle.gv_instances.proofs.Trees.{put_value}
-use Rattle.gv_seats.specs.Paths.{Path, Procedure, Closed, goes_on, after_step}
-use Rattle.gv_seats.specs.Seats.{Proof, Seat, Base, Described, HaveValues, Pair}
+use Rattle.gv_seats.specs.Paths.{Path, Procedure, goes_on}
+use Rattle.gv_seats.specs.Seats.{Proof, Seat, Described, HaveValues}
 use Rattle.gv_seats.specs.Soundness.{Calls, calls, Spawns, spawns, at_rest}
 use Rattle.gv_seats.proofs.Bases.{base_after}
-use Rattle.gv_rules.specs.Rows.{MayWrite}
-use Rattle.gv_giving.specs.Rows.{Gives, CallsOne, calls_one, SpawnsOne, spawns_one, vars_of, AreDistinct, param_terms, start_path}
+use Rattle.gv_giving.specs.Rows.{Gives, calls_one, spawns_one, vars_of, AreDistinct, param_terms, start_path}
 use Rattle.gv_giving.specs.Laws.{CallsLaw, SpawnsLaw}
 use Rattle.gv_giving.proofs.Givens.{all_parted, start_values, starts_agree, starts_valued, ArgValues, arg_values, each_has, params_have, params_long}
 

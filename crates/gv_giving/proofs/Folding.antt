@@ -1,5 +1,5 @@
 -- A case of a predicate is given up for its instance, and taken for it.
-use Rattle.std.proofs.Common.{◌≡◌, ℕ, zero, suc, ◌+◌, ◌≤◌, Bool, true, false, ◌&&◌, if◌then◌else◌, find, List, [], ◌∷◌, ◌++◌, map, is_some, Option, Some, None, refl, sym, ap, subst, ◌∙◌, arith}
+use Rattle.std.proofs.Common.{◌≡◌, ℕ, zero, suc, ◌+◌, Bool, true, false, ◌&&◌, if◌then◌else◌, find, List, [], ◌∷◌, ◌++◌, map, is_some, Option, Some, refl, sym, ap, subst, ◌∙◌, arith}
 use Rattle.std.specs.Prelude.{slice_get}
 use Rattle.std.specs.Str.{bytes_eq}
 use Rattle.std.proofs.lemmas.Slice.Eq.{bytes_eq-Decides}
@@ -10,28 +10,28 @@ use Rattle.gv_terms.specs.declared.value.Env.{Env}
 use Rattle.gv_terms.specs.declared.value.Value.{Value}
 use Rattle.gv_terms.specs.declared.var.Var.{Var}
 use Rattle.gv_terms.specs.Scopes.{is_among}
-use Rattle.gv_terms.specs.Trees.{value_under, looked_up}
+use Rattle.gv_terms.specs.Trees.{value_under}
 use Rattle.gv_terms.specs.Values.{has_sort}
 use Rattle.gv_terms.specs.Sorts.{sort_eq}
 use Rattle.gv_terms.proofs.Valued.{value_variable}
 use Rattle.gv_atomic.specs.Choices.{bound, binds}
 use Rattle.gv_world.specs.Store.{Store as World}
 use Rattle.gv_lang.specs.Threads.{Frame}
-use Rattle.gv_resources.specs.Pieces.{Resource, Piece}
+use Rattle.gv_resources.specs.Pieces.{Piece}
 use Rattle.gv_resources.specs.Ghost.{Ghost}
 use Rattle.gv_resources.proofs.Fitting.{fits_less}
 use Rattle.gv_assertions.specs.Atoms.{Atom, Instance, Case, Predicate, Takes, here, there, facts_of, atoms_of}
-use Rattle.gv_assertions.specs.Ranges.{IsPossible, IsValuation}
+use Rattle.gv_assertions.specs.Ranges.{IsValuation}
 use Rattle.gv_assertions.specs.Standing.{StandsFor, StandForAll, AreParts, AreTrueUnder, AreValuesOf, instance, both, none, valued, case_env, names_of}
 use Rattle.gv_assertions.proofs.Lists.{front, parted, joined}
-use Rattle.gv_instances.specs.Instances.{Given, AreSorted, binding_of, put_in_all, put_in_atoms, given_under, AreAllApart}
+use Rattle.gv_instances.specs.Instances.{Given, AreSorted, binding_of, put_in_all, given_under, AreAllApart}
 use Rattle.gv_instances.specs.Agreeing.{AgreeOnVars, AreClosed, AreClosedAtoms}
 use Rattle.gv_instances.proofs.Agreeing.{closed_law}
 use Rattle.gv_instances.proofs.Assertions.{all_out, all_into}
 use Rattle.gv_instances.proofs.Sorts.{sort_itself}
 use Rattle.gv_instances.proofs.Trees.{put_value}
 use Rattle.gv_seats.specs.Paths.{Path}
-use Rattle.gv_seats.specs.Seats.{Proof, Seat, Described}
+use Rattle.gv_seats.specs.Seats.{Proof, Seat}
 use Rattle.gv_seats.specs.Changes.{Nothing}
 use Rattle.gv_seats.specs.Scoping.{IsScoped, AreNew, variable, extended}
 use Rattle.gv_seats.specs.Soundness.{Arrives}
@@ -45,19 +45,19 @@ use Rattle.gv_giving.proofs.Entering.{facts_put, facts_closed}
 
 -- ---- two lists of what is given
 
-vars_joined : (args own : List Given) → vars_of (args ++ own) ≡ vars_of args ++ vars_of own
+pub vars_joined : (args own : List Given) → vars_of (args ++ own) ≡ vars_of args ++ vars_of own
 vars_joined [] own = refl
 vars_joined (g ∷ args) own = ap (λ xs. g.var ∷ xs) (vars_joined args own)
 
-bindings_joined : (env : Env) (args own : List Given) → map (binding_of env) (args ++ own) ≡ map (binding_of env) args ++ map (binding_of env) own
+pub bindings_joined : (env : Env) (args own : List Given) → map (binding_of env) (args ++ own) ≡ map (binding_of env) args ++ map (binding_of env) own
 bindings_joined env [] own = refl
 bindings_joined env (g ∷ args) own = ap (λ xs. binding_of env g ∷ xs) (bindings_joined env args own)
 
-values_of_terms : (env : Env) (given : List Given) → valued env (terms_of given) ≡ map (λ (g : Given). value_under env g.term) given
+pub values_of_terms : (env : Env) (given : List Given) → valued env (terms_of given) ≡ map (λ (g : Given). value_under env g.term) given
 values_of_terms env [] = refl
 values_of_terms env (g ∷ given) = ap (λ xs. value_under env g.term ∷ xs) (values_of_terms env given)
 
-args_bound : (env : Env) (vars : List Var) (given : List Given) (values : List Value) → vars ≡ vars_of given → values ≡ map (λ (g : Given). value_under env g.term) given
+pub args_bound : (env : Env) (vars : List Var) (given : List Given) (values : List Value) → vars ≡ vars_of given → values ≡ map (λ (g : Given). value_under env g.term) given
     → bound (names_of vars) values ≡ map (binding_of env) given
 args_bound env vars given values are same =
     ap (λ (xs : List Var). bound (names_of xs) values) are ∙ ap (λ (vs : List Value). bound (names_of (vars_of given)) vs) same ∙ bound_are env given
@@ -160,7 +160,7 @@ extended_values vars (x ∷ news) env (v ∷ values) new sorted =
     ap (λ (y : Value). y ∷ map (λ (z : Var). value_under all (variable z)) news) first ∙ ap (λ (ys : List Value). v ∷ ys) (extended_values (x ∷ vars) news one values new.1 sorted.2)
 
 -- values of variables are values of others of the same sorts
-sorted_as : (vars fresh : List Var) (values : List Value) → AreSortedAs vars fresh → AreValuesOf vars values → AreValuesOf fresh values
+pub sorted_as : (vars fresh : List Var) (values : List Value) → AreSortedAs vars fresh → AreValuesOf vars values → AreValuesOf fresh values
 sorted_as [] [] [] sorts sorted = tt
 sorted_as [] [] (v ∷ values) sorts sorted = absurd sorted
 sorted_as [] (y ∷ fresh) values sorts sorted = absurd sorts
@@ -169,29 +169,29 @@ sorted_as (x ∷ vars) (y ∷ fresh) [] sorts sorted = absurd sorted
 sorted_as (x ∷ vars) (y ∷ fresh) (v ∷ values) sorts sorted =
     (ap (λ (s : Sort). has_sort v s) sorts.0 ∙ sorted.0, sorted.1, sorted_as vars fresh values sorts.1 sorted.2)
 
-named_vars : (vars fresh : List Var) → AreSortedAs vars fresh → vars ≡ vars_of (named vars fresh)
+pub named_vars : (vars fresh : List Var) → AreSortedAs vars fresh → vars ≡ vars_of (named vars fresh)
 named_vars [] [] sorts = refl
 named_vars [] (y ∷ fresh) sorts = absurd sorts
 named_vars (x ∷ vars) [] sorts = absurd sorts
 named_vars (x ∷ vars) (y ∷ fresh) sorts = ap (λ xs. x ∷ xs) (named_vars vars fresh sorts.1)
 
-named_values : (env : Env) (vars fresh : List Var) → AreSortedAs vars fresh → map (λ (x : Var). value_under env (variable x)) fresh ≡ map (λ (g : Given). value_under env g.term) (named vars fresh)
+pub named_values : (env : Env) (vars fresh : List Var) → AreSortedAs vars fresh → map (λ (x : Var). value_under env (variable x)) fresh ≡ map (λ (g : Given). value_under env g.term) (named vars fresh)
 named_values env [] [] sorts = refl
 named_values env [] (y ∷ fresh) sorts = absurd sorts
 named_values env (x ∷ vars) [] sorts = absurd sorts
 named_values env (x ∷ vars) (y ∷ fresh) sorts = ap (λ xs. value_under env (variable y) ∷ xs) (named_values env vars fresh sorts.1)
 
-closed_values : (vars : List Var) (env other : Env) (ts : List TermTree) → AgreeOnVars env other vars → AreClosed vars ts → valued env ts ≡ valued other ts
+pub closed_values : (vars : List Var) (env other : Env) (ts : List TermTree) → AgreeOnVars env other vars → AreClosed vars ts → valued env ts ≡ valued other ts
 closed_values vars env other [] same closed = refl
 closed_values vars env other (t ∷ ts) same closed =
     ap (λ xs. xs ∷ valued env ts) ((closed_law vars env other).value same t closed.0) ∙ ap (λ xs. value_under other t ∷ xs) (closed_values vars env other ts same closed.1)
 
 -- facts and assertions with terms put in
-facts_into : (env : Env) (given : List Given) (facts : List TermTree) → AreSorted given → AreTrueUnder (given_under given env) facts → AreTrueUnder env (put_in_all given facts)
+pub facts_into : (env : Env) (given : List Given) (facts : List TermTree) → AreSorted given → AreTrueUnder (given_under given env) facts → AreTrueUnder env (put_in_all given facts)
 facts_into env given [] sorted h = tt
 facts_into env given (f ∷ facts) sorted h = (put_value given env sorted f ∙ h.0, facts_into env given facts sorted h.1)
 
-facts_join : (env : Env) (facts more : List TermTree) → AreTrueUnder env facts → AreTrueUnder env more → AreTrueUnder env (facts ++ more)
+pub facts_join : (env : Env) (facts more : List TermTree) → AreTrueUnder env facts → AreTrueUnder env more → AreTrueUnder env (facts ++ more)
 facts_join env [] more h k = k
 facts_join env (f ∷ facts) more h k = (h.0, facts_join env facts more h.1 k)
 

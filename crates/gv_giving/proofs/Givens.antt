@@ -1,5 +1,5 @@
 -- Values of variables for which terms are given.
-use Rattle.std.proofs.Common.{◌≡◌, ℕ, zero, suc, ◌+◌, ◌<◌, Bool, true, false, ◌&&◌, if◌then◌else◌, List, [], ◌∷◌, ◌++◌, map, length, is_some, find, Option, Some, None, refl, sym, ap, subst, ◌∙◌, arith}
+use Rattle.std.proofs.Common.{◌≡◌, ℕ, zero, suc, ◌+◌, Bool, true, false, ◌&&◌, if◌then◌else◌, List, [], ◌∷◌, ◌++◌, map, length, is_some, find, Option, Some, refl, sym, ap, ◌∙◌, arith}
 use Rattle.std.specs.Prelude.{slice_get}
 use Rattle.std.specs.Str.{bytes_eq}
 use Rattle.std.proofs.lemmas.Slice.Eq.{bytes_eq-Decides}
@@ -18,11 +18,11 @@ use Rattle.gv_terms.proofs.Valued.{value_variable}
 use Rattle.gv_terms.proofs.ValueSorts.{values_have_sorts}
 use Rattle.gv_atomic.specs.Choices.{bound, binds}
 use Rattle.gv_lang.specs.Tree.{Expr}
-use Rattle.gv_lang.specs.Values.{value, values, also}
-use Rattle.gv_resources.specs.Pieces.{Resource, Piece}
+use Rattle.gv_lang.specs.Values.{values, also}
+use Rattle.gv_resources.specs.Pieces.{Piece}
 use Rattle.gv_assertions.specs.Atoms.{Atom, Predicate}
-use Rattle.gv_assertions.specs.Ranges.{IsPossible, IsValuation}
-use Rattle.gv_assertions.specs.Standing.{StandForAll, AreParts, AreValuesOf, names_of, both, none}
+use Rattle.gv_assertions.specs.Ranges.{IsValuation}
+use Rattle.gv_assertions.specs.Standing.{StandForAll, AreValuesOf, names_of, both, none}
 use Rattle.gv_assertions.specs.Laws.{Parted}
 use Rattle.gv_assertions.proofs.Lists.{front, parted}
 use Rattle.gv_assertions.proofs.TermValues.{term_values}

@@ -2,3 +2,4 @@ pub mod Givens
 pub mod Entering
 pub mod Returning
 pub mod Folding
+pub mod Answering

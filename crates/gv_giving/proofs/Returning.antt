@@ -1,19 +1,15 @@
 -- A frame returns what its procedure owes.
-use Rattle.std.proofs.Common.{◌≡◌, ℕ, ◌+◌, ◌≤◌, Bool, true, false, ◌&&◌, if◌then◌else◌, List, [], ◌∷◌, ◌++◌, map, length, is_some, find, Option, Some, None, refl, sym, ap, subst, ◌∙◌, arith}
+use Rattle.std.proofs.Common.{◌≡◌, ℕ, ◌&&◌, List, [], ◌∷◌, ◌++◌, map, find, Option, Some, None, refl, sym, ap, subst, ◌∙◌, arith}
 use Rattle.std.specs.Str.{bytes_eq}
 use Rattle.gv_base.specs.declared.answers.Place.{Place}
 use Rattle.gv_base.specs.declared.answer.Answer.{Answer}
 use Rattle.gv_base.specs.declared.answer.Answer.TheVariants.{Next}
 use Rattle.gv_base.specs.declared.val.Val.{Val}
-use Rattle.gv_terms.specs.declared.sort.Sort.{Sort}
-use Rattle.gv_terms.specs.declared.tree.TermTree.{TermTree}
 use Rattle.gv_terms.specs.declared.value.Binding.{Binding}
 use Rattle.gv_terms.specs.declared.value.Env.{Env}
-use Rattle.gv_terms.specs.declared.value.Value.{Value}
 use Rattle.gv_terms.specs.declared.var.Var.{Var}
-use Rattle.gv_terms.specs.Scopes.{is_among}
 use Rattle.gv_terms.specs.Sorts.{sort_eq}
-use Rattle.gv_terms.specs.Trees.{looked_up, value_under}
+use Rattle.gv_terms.specs.Trees.{value_under}
 use Rattle.gv_terms.specs.Values.{has_sort}
 use Rattle.gv_atomic.specs.Choices.{bound, binds}
 use Rattle.gv_world.specs.Answers.{and_then}
@@ -24,8 +20,6 @@ use Rattle.gv_lang.specs.Threads.{Frame}
 use Rattle.gv_lang.specs.Table.{Pops, as_values}
 use Rattle.gv_lang.specs.Values.{values}
 use Rattle.gv_lang.specs.Step.{Stepped, stepped, settled, returned}
-use Rattle.gv_resources.specs.Pieces.{Piece}
-use Rattle.gv_resources.specs.Ghost.{Ghost}
 use Rattle.gv_resources.proofs.Fitting.{fits_less}
 use Rattle.gv_assertions.specs.Atoms.{facts_of, atoms_of}
 use Rattle.gv_assertions.specs.Standing.{AreValuesOf, names_of}
@@ -34,8 +28,7 @@ use Rattle.gv_instances.specs.Agreeing.{AgreeOnVars}
 use Rattle.gv_instances.proofs.Agreeing.{closed_law}
 use Rattle.gv_instances.proofs.Assertions.{all_out}
 use Rattle.gv_instances.proofs.Trees.{found_first, test_is}
-use Rattle.gv_seats.specs.Paths.{Path, Procedure}
-use Rattle.gv_seats.specs.Seats.{Proof, Seat}
+use Rattle.gv_seats.specs.Paths.{Procedure}
 use Rattle.gv_seats.specs.Soundness.{Returns, returns, with_results, at_rest}
 use Rattle.gv_giving.specs.Rows.{returns_from, vars_of}
 use Rattle.gv_giving.specs.Laws.{ReturnsLaw}
@@ -43,15 +36,15 @@ use Rattle.gv_giving.proofs.Givens.{all_parted, chosen, among_rest, arg_values, 
 use Rattle.gv_giving.proofs.Entering.{facts_put, facts_closed}
 
 -- the same values in front of valuations that agree
-joined_agree : (env start : Env) (given : List Given) (vars : List Var) → AreSorted given → AgreeOnVars env start vars
-    → AgreeOnVars (binds (map (binding_of env) given ++ env.bindings)) (binds (map (binding_of env) given ++ start.bindings)) (vars_of given ++ vars)
-joined_agree env start [] vars sorted same n s among = same n s among
-joined_agree env start (g ∷ given) vars sorted same n s among =
-    found_first (binding_of env g) (map (binding_of env) given ++ env.bindings) n s
-    ∙ chosen (bytes_eq g.var.name n && has_sort (value_under env g.term) s) (value_under env g.term) _ _
-    (λ e. joined_agree env start given vars sorted.1 same n s
-    (among_rest (bytes_eq g.var.name n && sort_eq g.var.sort s) g.var (find (λ v. bytes_eq v.name n && sort_eq v.sort s) (vars_of given ++ vars)) among (sym (test_is env g n s sorted.0) ∙ e)))
-    ∙ sym (found_first (binding_of env g) (map (binding_of env) given ++ start.bindings) n s)
+pub joined_agree : (base env start : Env) (given : List Given) (vars : List Var) → AreSorted given → AgreeOnVars env start vars
+    → AgreeOnVars (binds (map (binding_of base) given ++ env.bindings)) (binds (map (binding_of base) given ++ start.bindings)) (vars_of given ++ vars)
+joined_agree base env start [] vars sorted same n s among = same n s among
+joined_agree base env start (g ∷ given) vars sorted same n s among =
+    found_first (binding_of base g) (map (binding_of base) given ++ env.bindings) n s
+    ∙ chosen (bytes_eq g.var.name n && has_sort (value_under base g.term) s) (value_under base g.term) _ _
+    (λ e. joined_agree base env start given vars sorted.1 same n s
+    (among_rest (bytes_eq g.var.name n && sort_eq g.var.sort s) g.var (find (λ v. bytes_eq v.name n && sort_eq v.sort s) (vars_of given ++ vars)) among (sym (test_is base g n s sorted.0) ∙ e)))
+    ∙ sym (found_first (binding_of base g) (map (binding_of base) given ++ start.bindings) n s)
 
 results_agree : (env start : Env) (p : Procedure) (given : List Given) → p.results ≡ vars_of given → AreSorted given → AgreeOnVars env start p.start
     → AgreeOnVars (given_under given env) (with_results p (map (λ g. value_under env g.term) given) start) (p.results ++ p.start)
@@ -60,7 +53,7 @@ results_agree env start p given are sorted same =
     let bindings : map (binding_of env) given ≡ bound (names_of p.results) values = sym (bound_are env given) ∙ ap (λ (vars : List Var). bound (names_of vars) values) (sym are) in
     subst (λ (bs : List Binding). AgreeOnVars (given_under given env) (binds (bs ++ start.bindings)) (p.results ++ p.start)) bindings
     (subst (λ (vars : List Var). AgreeOnVars (given_under given env) (binds (map (binding_of env) given ++ start.bindings)) (vars ++ p.start)) (sym are)
-    (joined_agree env start given p.start sorted same))
+    (joined_agree env env start given p.start sorted same))
 
 module _ (program : Program) (extra : ℕ) (w : World) (f : Frame) (below : List Frame) where
   abbrev at : Todo → Frame

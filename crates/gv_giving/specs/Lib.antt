@@ -1,3 +1,4 @@
 pub mod Rows
 pub mod Folding
+pub mod Answering
 pub mod Laws

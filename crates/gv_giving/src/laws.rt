@@ -1,6 +1,6 @@
 //! Laws of the definitions in this crate. Each function does nothing: its contract is the law.
 
-ghost use Rattle.gv_giving.specs.Laws.{CallsLaw, FoldsLaw, ReturnsLaw, SpawnsLaw, UnfoldsLaw};
+ghost use Rattle.gv_giving.specs.Laws.{AnswersLaw, CallsLaw, FoldsLaw, ReturnsLaw, SpawnsLaw, UnfoldsLaw};
 
 /// A case of a predicate is given up for its instance.
 pub fn folds_sound()
@@ -26,4 +26,9 @@ pub fn spawns_sound()
 /// A return leaves what its procedure owes, under the values of its results.
 pub fn returns_sound()
     ensures { ReturnsLaw }
+{}
+
+/// A caller that waits goes on behind its call, with what the callee owed under new names.
+pub fn answers_sound()
+    ensures { AnswersLaw }
 {}

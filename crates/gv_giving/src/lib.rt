@@ -3,4 +3,6 @@
 
 mod laws;
 
-pub use laws::{calls_sound, folds_sound, returns_sound, spawns_sound, unfolds_sound};
+pub use laws::{
+    answers_sound, calls_sound, folds_sound, returns_sound, spawns_sound, unfolds_sound,
+};
