@@ -1,0 +1,6 @@
+pub mod Truths
+pub mod Blocks
+pub mod Fresh
+pub mod DiskReads
+pub mod DiskWrites
+pub mod SliceMakes

@@ -1,0 +1,6 @@
+//! Rules of a proof about slices and disks that are sound for one thread, whatever others own.
+#![tactic(auto)]
+
+mod laws;
+
+pub use laws::{makes_sound, reads_sound, writes_sound};
