@@ -1,1 +1,5 @@
 pub mod Sharing
+pub mod Renewing
+pub mod Walking
+pub mod Acting
+pub mod Simming
