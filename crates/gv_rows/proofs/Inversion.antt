@@ -1,23 +1,21 @@
 -- What it tells that a row has been applied.
-use Rattle.std.proofs.Common.{◌≡◌, ◌⊎◌, inl, inr, ℕ, zero, suc, Bool, true, false, not, ◌&&◌, ◌||◌, if◌then◌else◌, List, [], ◌∷◌, ◌++◌, Option, Some, None, Result, Ok, Err, refl, sym, ap, subst, ◌∙◌}
+use Rattle.std.proofs.Common.{◌≡◌, ◌⊎◌, inl, inr, suc, Bool, true, false, not, ◌&&◌, ◌||◌, if◌then◌else◌, List, [], ◌∷◌, ◌++◌, Option, Some, None, Result, Ok, refl, sym, ap, subst, ◌∙◌}
 use Rattle.std.specs.Prelude.{slice_get, slice_set}
 use Rattle.std.specs.Bool.{Decides}
-use Rattle.std.specs.Cmp.Lexicographic.{pointwise}
 use Rattle.std.proofs.lemmas.Slice.Eq.{slice_eq-Decides}
 use Rattle.gv_terms.specs.declared.tree.TermTree.{TermTree}
 use Rattle.gv_terms.specs.Values.{bool_eq}
 use Rattle.gv_certs.specs.declared.cause.Cause.{Cause}
 use Rattle.gv_certs.specs.declared.cause.Cause.TheVariants as cause
 use Rattle.gv_certs.specs.Known.{is_known}
-use Rattle.gv_certs.specs.Trees.{tree_eq}
 use Rattle.gv_certs.proofs.Equality.{tree_eq_decides}
 use Rattle.gv_resources.specs.Kinds.{Kind, kind_eq}
 use Rattle.gv_resources.proofs.Equality.{kind_tells}
 use Rattle.gv_assertions.specs.Atoms.{Atom, Owns, Slice, Spare, Instance, Each, here, there}
 use Rattle.gv_assertions.specs.Atoms as atoms
 use Rattle.gv_seats.specs.Paths.{Opened, Closed}
-use Rattle.gv_rows.specs.Rows.{Head, Owned, Cells, Spares, same_head, Named, named, atom_of, Step, Reads, Takes, Becomes, Adds, Knows, Fact, Sets, NotUsed, IsClosed, NotClosed, InShared, Opens, Closes, Fails, State, Spot, behind, fits_key, this_or, found, term, terms, same_terms, with_atoms, with_slots, with_place, with_bracket, place_of, is_closed, is_used, is_shared, need, at_spot, step, and_then, apply_row}
-use Rattle.gv_rows.specs.Told.{IsSpot, Told}
+use Rattle.gv_rows.specs.Rows.{Head, Owned, Cells, Spares, same_head, Named, named, atom_of, Reads, Takes, Becomes, Adds, Knows, Fact, Sets, NotUsed, IsClosed, NotClosed, InShared, Opens, Closes, Fails, State, Spot, behind, fits_key, this_or, found, term, terms, same_terms, with_atoms, with_slots, with_place, with_bracket, place_of, is_closed, is_used, is_shared, need, at_spot, and_then, apply_row}
+use Rattle.gv_rows.specs.Told.{IsSpot}
 use Rattle.gv_rows.specs.Laws.{ToldLaw}
 
 -- ---- tests

@@ -1,3 +1,4 @@
 pub mod Inversion
 pub mod Rules
 pub mod Worked
+pub mod DiskRow

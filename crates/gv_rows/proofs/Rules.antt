@@ -1,5 +1,5 @@
 -- Where rows are applied, rules are sound.
-use Rattle.std.proofs.Common.{◌≡◌, ◌⊎◌, inl, inr, ℕ, zero, suc, Bool, true, false, List, [], ◌∷◌, ◌++◌, length, Option, Some, None, Result, Ok, refl, sym, ap, subst, ◌∙◌}
+use Rattle.std.proofs.Common.{◌≡◌, inl, inr, ℕ, zero, suc, Bool, true, false, List, [], ◌∷◌, ◌++◌, length, Option, Some, refl, sym, ap, subst, ◌∙◌}
 use Rattle.std.specs.Prelude.{slice_get, slice_set}
 use Rattle.gv_terms.specs.declared.tree.TermTree.{TermTree}
 use Rattle.gv_resources.specs.Kinds as kind
@@ -12,18 +12,18 @@ use Rattle.gv_rules.specs.Rows.{Replaces, loads, stores}
 use Rattle.gv_rules.specs.Rows as rule
 use Rattle.gv_rules.proofs.Loads.{loads_law}
 use Rattle.gv_rules.proofs.Stores.{stores_law}
-use Rattle.gv_rows.specs.Formed.{IsFormed, AreFormed, values_of}
+use Rattle.gv_rows.specs.Formed.{IsFormed, AreFormed}
 use Rattle.gv_rows.specs.Rows.{Head, Owned, State, Spot, atom_of, slot_of, started}
 use Rattle.gv_rows.specs.Table.{load_row, store_row}
 use Rattle.gv_rows.specs.Told.{IsSpot}
 use Rattle.gv_rows.specs.Laws.{LoadRowLaw, StoreRowLaw}
 use Rattle.gv_rows.proofs.Inversion.{told_law}
 
-taken_formed : {all left : List Atom} {a : Atom} → Takes all a left → AreFormed all → IsFormed a
+pub taken_formed : {all left : List Atom} {a : Atom} → Takes all a left → AreFormed all → IsFormed a
 taken_formed here f = f.0
 taken_formed (there t) f = taken_formed t f.1
 
-one_value : (xs : List TermTree) → length xs ≡ 1 → (v : TermTree) × (xs ≡ v ∷ [])
+pub one_value : (xs : List TermTree) → length xs ≡ 1 → (v : TermTree) × (xs ≡ v ∷ [])
 one_value [] e = absurd cc
 one_value (v ∷ []) e = (v, refl)
 one_value (v ∷ u ∷ xs) e = absurd cc
@@ -59,7 +59,7 @@ load_row_law o h t x p object of field place rest may todo l term object_sort fo
     (subst (λ (as_now : List Atom). IsSoundStep o changes_nothing h (goes_on h rest (slice_set h.locals x (Some c.v)) as_now ∷ [])) atoms_are gives)
 
 -- an item under a number becomes another
-replaced : {A : Type 0} (all : List A) (n : ℕ) (a b : A) → slice_get all n ≡ Some a → Replaces all a b (slice_set all n b)
+pub replaced : {A : Type 0} (all : List A) (n : ℕ) (a b : A) → slice_get all n ≡ Some a → Replaces all a b (slice_set all n b)
 replaced [] n a b e = absurd cc
 replaced (x ∷ all) zero a b e = let same : x ≡ a = cc in subst (λ y. Replaces (x ∷ all) y b (b ∷ all)) same rule.here
 replaced (x ∷ all) (suc n) a b e = rule.there (replaced all n a b e)

@@ -1,16 +1,12 @@
 -- Rows that are worked out.
-use Rattle.std.proofs.Common.{◌≡◌, ℕ, Bool, true, false, ◌&&◌, ◌||◌, if◌then◌else◌, List, [], ◌∷◌, ◌++◌, Option, Some, None, Result, Ok, refl, ap, ◌∙◌}
-use Rattle.std.specs.Prelude.{slice_set}
+use Rattle.std.proofs.Common.{◌≡◌, Bool, true, false, if◌then◌else◌, List, [], ◌∷◌, Some, refl, ap}
 use Rattle.std.specs.Bool.{Decides}
 use Rattle.std.proofs.lemmas.Slice.Eq.{slice_eq-Decides}
 use Rattle.gv_terms.specs.declared.tree.TermTree.{TermTree}
-use Rattle.gv_certs.specs.declared.cause.Cause.{Cause}
 use Rattle.gv_certs.proofs.Equality.{tree_eq_decides}
 use Rattle.gv_resources.specs.Kinds as kind
 use Rattle.gv_assertions.specs.Atoms.{Atom, Owns}
-use Rattle.gv_seats.specs.Paths.{Path}
-use Rattle.gv_rows.specs.Rows.{Owned, Step, Sets, Slot, State, Spot, behind, same_terms, found, started, with_slots, with_place, at_spot, and_then, apply_row}
-use Rattle.gv_rows.specs.Table.{load_row}
+use Rattle.gv_rows.specs.Rows.{Owned, Sets, Slot, behind, same_terms, found, started, with_slots, with_place, at_spot, and_then, apply_row}
 use Rattle.gv_rows.specs.Laws.{WorkedRowsLaw}
 
 same_again : (ts : List TermTree) → same_terms ts ts ≡ true

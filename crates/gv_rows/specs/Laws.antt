@@ -6,19 +6,20 @@ use Rattle.gv_terms.specs.declared.sort.Sort.TheVariants as sort
 use Rattle.gv_terms.specs.declared.tree.TermTree.{TermTree}
 use Rattle.gv_terms.specs.Trees.{sort_of}
 use Rattle.gv_certs.specs.declared.cause.Cause.TheVariants as cause
-use Rattle.gv_lang.specs.Tree.{Expr, Load, Store, Do}
+use Rattle.gv_lang.specs.Tree.{Expr, Load, Store, DiskWrite, Do}
 use Rattle.gv_lang.specs.Todo.{Todo, Run}
 use Rattle.gv_resources.specs.Kinds as kind
 use Rattle.gv_resources.specs.Kinds.{cell_kind}
-use Rattle.gv_assertions.specs.Atoms.{Atom, Owns, Takes}
+use Rattle.gv_assertions.specs.Atoms.{Atom, Owns, Slice, Takes}
+use Rattle.gv_assertions.specs.Standing.{number_under}
 use Rattle.gv_seats.specs.Paths.{Path, term_of, number, goes_on}
 use Rattle.gv_seats.specs.Seats.{Proof}
-use Rattle.gv_seats.specs.Changes.{changes_nothing}
+use Rattle.gv_seats.specs.Changes.{SetsBlock, changes_nothing}
 use Rattle.gv_seats.specs.Soundness.{IsSoundStep, IsSoundWrite}
 use Rattle.gv_rules.specs.Rows.{MayStep, MayWrite, IsLocal, IsLocalSort}
 use Rattle.gv_rows.specs.Formed.{AreFormed}
 use Rattle.gv_rows.specs.Rows.{Step, State, apply_row, started}
-use Rattle.gv_rows.specs.Table.{load_row, store_row}
+use Rattle.gv_rows.specs.Table.{load_row, store_row, disk_write_row}
 use Rattle.gv_rows.specs.Told.{Told}
 
 -- where a row has been applied, its premises hold, one after another, and it came to what it gives
@@ -59,3 +60,12 @@ StoreRowLaw = (o : Proof) (h : Path) (t : State) (p e : Expr) (object u : TermTr
     → ((v : TermTree) (left : List Atom) → Takes h.atoms (Owns kind.Cell (object ∷ number of ∷ number field ∷ []) (v ∷ [])) left → sort_of v ≡ Some s)
     → apply_row [] store_row (started h (object ∷ number of ∷ number field ∷ u ∷ [])) ≡ Ok t
     → IsSoundWrite o h (goes_on h rest t.path.locals t.path.atoms ∷ [])
+
+-- and so is the write of a block
+abbrev pub DiskWriteRowLaw : Type 0
+DiskWriteRowLaw = (o : Proof) (h : Path) (t : State) (d : ℕ) (dd a e : Expr) (address s : TermTree) (place : Place) (rest : Todo) → MayStep h
+    → h.todo ≡ Run (Do (DiskWrite dd a e) place) ∷ rest → term_of h.locals dd ≡ Some (number d) → term_of h.locals a ≡ Some address → sort_of address ≡ Some sort.Word
+    → term_of h.locals e ≡ Some s → sort_of s ≡ Some sort.SliceS → AreFormed h.atoms
+    → ((frozen : Bool) (items : TermTree) (left : List Atom) → Takes h.atoms (Slice frozen s items) left → sort_of items ≡ Some sort.Bytes)
+    → apply_row [] disk_write_row (started h (number d ∷ address ∷ s ∷ number o.blocks ∷ [])) ≡ Ok t
+    → IsSoundStep o (λ env. SetsBlock d (number_under env address)) h (goes_on h rest t.path.locals t.path.atoms ∷ [])

@@ -1,6 +1,6 @@
 //! Laws of the definitions in this crate. Each function does nothing: its contract is the law.
 
-ghost use Rattle.gv_rows.specs.Laws.{LoadRowLaw, StoreRowLaw, ToldLaw, WorkedRowsLaw};
+ghost use Rattle.gv_rows.specs.Laws.{DiskWriteRowLaw, LoadRowLaw, StoreRowLaw, ToldLaw, WorkedRowsLaw};
 
 /// Where a row has been applied, its premises hold, one after another.
 pub fn rows_told()
@@ -20,4 +20,9 @@ pub fn store_row_sound()
 /// What the row of a read comes to where its cell comes first, and where no assertion is there.
 pub fn worked_rows()
     ensures { WorkedRowsLaw }
+{}
+
+/// Where the row of a write of a block is applied, the write is sound beside every rest.
+pub fn disk_write_row_sound()
+    ensures { DiskWriteRowLaw }
 {}

@@ -3,4 +3,4 @@
 
 mod laws;
 
-pub use laws::{load_row_sound, rows_told, store_row_sound, worked_rows};
+pub use laws::{disk_write_row_sound, load_row_sound, rows_told, store_row_sound, worked_rows};
