@@ -3,3 +3,4 @@ pub mod Renewing
 pub mod Walking
 pub mod Acting
 pub mod Simming
+pub mod Booting

@@ -52,12 +52,12 @@ reply_told env _ (a_reply {t = t} {s = s} sorted) = plain_reply (value_under env
     plain_reply _ s e = refl
 
 -- lists of values, item by item
-valued_at : (env : Env) (ts : List TermTree) (i : ℕ) (t : TermTree) → slice_get ts i ≡ Some t → slice_get (valued env ts) i ≡ Some (value_under env t)
+pub valued_at : (env : Env) (ts : List TermTree) (i : ℕ) (t : TermTree) → slice_get ts i ≡ Some t → slice_get (valued env ts) i ≡ Some (value_under env t)
 valued_at env [] i t e = absurd cc
 valued_at env (u ∷ ts) zero t e = let same : u ≡ t = cc in ap (λ (x : TermTree). Some (value_under env x)) same
 valued_at env (u ∷ ts) (suc i) t e = valued_at env ts i t e
 
-valued_long : (env : Env) (ts : List TermTree) → length (valued env ts) ≡ length ts
+pub valued_long : (env : Env) (ts : List TermTree) → length (valued env ts) ≡ length ts
 valued_long env [] = refl
 valued_long env (t ∷ ts) = ap suc (valued_long env ts)
 
@@ -74,7 +74,7 @@ none_behind (x ∷ xs) (suc i) l = none_behind xs i (omega (arith, l))
 behind_or_within : (i n : ℕ) → (i < n) ⊎ (n ≤ i)
 behind_or_within i n = grind arith
 
-same_lists : (env : Env) (ts : List TermTree) (ys : List Value) → length ys ≡ length ts → ((i : ℕ) (t : TermTree) → slice_get ts i ≡ Some t → slice_get ys i ≡ Some (value_under env t))
+pub same_lists : (env : Env) (ts : List TermTree) (ys : List Value) → length ys ≡ length ts → ((i : ℕ) (t : TermTree) → slice_get ts i ≡ Some t → slice_get ys i ≡ Some (value_under env t))
     → valued env ts ≡ ys
 same_lists env [] [] long each = refl
 same_lists env [] (y ∷ ys) long each = absurd (omega (arith, long))
@@ -109,7 +109,7 @@ waiting z g n operation args e = record { called = at (g.walk.table n) (passed _
 
 -- ---- what changes
 
-abbrev listed_at : List Leased → Option ℕ → Bool
+abbrev pub listed_at : List Leased → Option ℕ → Bool
 listed_at leases None = false
 listed_at leases (Some place) = is_listed leases place
 
@@ -146,6 +146,32 @@ leased_is : (x : Option Bool) → is_leased x ≡ true → x ≡ Some true
 leased_is None e = absurd cc
 leased_is (Some b) e = ap Some e
 
+module _ (o : Proof) (g : Ghost) (env : Env) (olds news : List TermTree) (leases : List Leased) (fields : valued env olds ≡ g.walk.fields) (long : length olds ≡ length o.leased)
+    (as_many : length news ≡ length olds)
+    (keeps : (place : ℕ) (t u : TermTree) → slice_get o.leased place ≡ Some true → is_listed leases place ≡ false → slice_get olds place ≡ Some t → slice_get news place ≡ Some u
+    → value_under env u ≡ value_under env t) where
+  field_at : (place : ℕ) → slice_get o.leased place ≡ Some true → is_listed leases place ≡ false → slice_get (valued env news) place ≡ slice_get g.walk.fields place
+  field_at place leased free =
+      let inside = within_leased o.leased place leased in
+      let (t, t_there) = there_within olds place (omega (arith, inside, long)) in
+      let (u, u_there) = there_within news place (omega (arith, inside, long, as_many)) in
+      valued_at env news place u u_there ∙ ap Some (keeps place t u leased free t_there u_there) ∙ sym (valued_at env olds place t t_there) ∙ ap (λ (xs : List Value). slice_get xs place) fields
+    where
+      within_leased : (xs : List Bool) (i : ℕ) → slice_get xs i ≡ Some true → i < length xs
+      within_leased [] i e = absurd cc
+      within_leased (x ∷ xs) zero e = omega arith
+      within_leased (x ∷ xs) (suc i) e = let l = within_leased xs i e in omega arith
+
+  pub leases_same : (found : Option ℕ) → listed_at leases found ≡ false
+      → under found (λ place. only_if (is_leased (slice_get o.leased place)) (one (slice_get (valued env news) place))) ≡ under found (λ place. only_if (is_leased (slice_get o.leased place)) (one (slice_get g.walk.fields place)))
+  leases_same None free = refl
+  leases_same (Some place) free = at (slice_get o.leased place) refl
+    where
+      at : (x : Option Bool) → slice_get o.leased place ≡ x → only_if (is_leased x) (one (slice_get (valued env news) place)) ≡ only_if (is_leased x) (one (slice_get g.walk.fields place))
+      at None e = refl
+      at (Some false) e = refl
+      at (Some true) e = ap (λ (v : Option Value). one v) (field_at place e free)
+
 module _ (o : Proof) (w : World) (g : Ghost) (h : Path) (env : Env) (n operation : ℕ) (args olds news : List TermTree) (choices : List ℕ) (reply : List TermTree) (leases : List Leased)
     (c : IsConsistent o w g) (called : g.walk.table n ≡ Called operation (valued env args)) (fields : valued env olds ≡ g.walk.fields) (long : length olds ≡ length o.leased)
     (as_many : length news ≡ length olds) (is_reply : IsReply reply)
@@ -178,33 +204,11 @@ module _ (o : Proof) (w : World) (g : Ghost) (h : Path) (env : Env) (n operation
         | inr (ne, t) ↦ ap is_in_table (entered_elsewhere g.walk.table n m (Acted (reply_under env reply)) ne)
       ]
 
-  field_at : (place : ℕ) → slice_get o.leased place ≡ Some true → is_listed leases place ≡ false → slice_get (valued env news) place ≡ slice_get g.walk.fields place
-  field_at place leased free =
-      let inside = within_leased o.leased place leased in
-      let (t, t_there) = there_within olds place (omega (arith, inside, long)) in
-      let (u, u_there) = there_within news place (omega (arith, inside, long, as_many)) in
-      valued_at env news place u u_there ∙ ap Some (keeps place t u leased free t_there u_there) ∙ sym (valued_at env olds place t t_there) ∙ ap (λ (xs : List Value). slice_get xs place) fields
-    where
-      within_leased : (xs : List Bool) (i : ℕ) → slice_get xs i ≡ Some true → i < length xs
-      within_leased [] i e = absurd cc
-      within_leased (x ∷ xs) zero e = omega arith
-      within_leased (x ∷ xs) (suc i) e = let l = within_leased xs i e in omega arith
-
-  leases_same : (found : Option ℕ) → listed_at leases found ≡ false
-      → under found (λ place. only_if (is_leased (slice_get o.leased place)) (one (slice_get (valued env news) place))) ≡ under found (λ place. only_if (is_leased (slice_get o.leased place)) (one (slice_get g.walk.fields place)))
-  leases_same None free = refl
-  leases_same (Some place) free = at (slice_get o.leased place) refl
-    where
-      at : (x : Option Bool) → slice_get o.leased place ≡ x → only_if (is_leased x) (one (slice_get (valued env news) place)) ≡ only_if (is_leased x) (one (slice_get g.walk.fields place))
-      at None e = refl
-      at (Some false) e = refl
-      at (Some true) e = ap (λ (v : Option Value). one v) (field_at place e free)
-
   pub told_same : (k : Kind) (key : List Value) → renews_at n leases k key ≡ false → told (shape_of o) w now k key ≡ told (shape_of o) w g k key
   told_same kind.Token key free = tokens_same (call_of key) (λ m e same. other_key key (val.Call n ∷ []) free (key_of_call key m e ∙ ap (λ (i : ℕ). val.Call i ∷ []) same))
   told_same kind.Done key free = dones_same (call_of key) (λ m e same. other_key key (val.Call n ∷ []) free (key_of_call key m e ∙ ap (λ (i : ℕ). val.Call i ∷ []) same))
   told_same kind.Field key free = absurd cc
-  told_same kind.FieldLease key free = leases_same (number_of key) free
+  told_same kind.FieldLease key free = leases_same o g env olds news leases fields long as_many keeps (number_of key) free
   told_same kind.OpenCall key free = opens_same (call_of key)
   told_same _ key free = refl
 
@@ -298,11 +302,11 @@ module _ (o : Proof) (w : World) (g : Ghost) (h : Path) (env : Env) (n operation
 
 -- ---- the law
 
-map_joined : {A B : Type 0} (f : A → B) (xs ys : List A) → map f (xs ++ ys) ≡ map f xs ++ map f ys
+pub map_joined : {A B : Type 0} (f : A → B) (xs ys : List A) → map f (xs ++ ys) ≡ map f xs ++ map f ys
 map_joined f [] ys = refl
 map_joined f (x ∷ xs) ys = ap (λ zs. f x ∷ zs) (map_joined f xs ys)
 
-one_is : (x : Option Value) (v : Value) → one x ≡ Some (v ∷ []) → x ≡ Some v
+pub one_is : (x : Option Value) (v : Value) → one x ≡ Some (v ∷ []) → x ≡ Some v
 one_is None v e = absurd cc
 one_is (Some u) v e = cc
 
@@ -312,15 +316,14 @@ token_owned {env = env} {call = call} {operation = operation} {args = args} {p =
     subst (λ (x : Value). 0 < p (Have kind.Token (x ∷ []) (val.Word operation ∷ valued env args))) is
     (subst (λ (x : Value). 0 < p (Have kind.Token (value_under env call ∷ []) (x ∷ valued env args))) (number_is env operation) has)
 
-module _ (o : Proof) (w : World) (g : Ghost) (env : Env) (n operation : ℕ) (args olds news : List TermTree) (leases : List Leased) (whole own frame : Piece) (c : IsConsistent o w g)
-    (f : Fits whole (told (shape_of o) w g)) (parts : (e : Resource) → own e + frame e ≤ whole e) (called : g.walk.table n ≡ Called operation (valued env args))
-    (token : 0 < own (Have kind.Token (val.Call n ∷ []) (val.Word operation ∷ valued env args)))
+module _ (o : Proof) (w : World) (g : Ghost) (env : Env) (olds news : List TermTree) (leases : List Leased) (whole own frame : Piece) (c : IsConsistent o w g)
+    (f : Fits whole (told (shape_of o) w g)) (parts : (e : Resource) → own e + frame e ≤ whole e)
     (fields : (i : ℕ) (t : TermTree) → slice_get olds i ≡ Some t → 0 < own (Have kind.Field (val.Word i ∷ []) (value_under env t ∷ [])))
     (each : EachLease (IsGiven env news own) leases) (long : length olds ≡ length o.leased) where
-  frame_within : (e : Resource) → frame e ≤ whole e
+  pub frame_within : (e : Resource) → frame e ≤ whole e
   frame_within e = let l = parts e in omega arith
 
-  no_field : (key v : List Value) (found : Option ℕ) → number_of key ≡ found → 0 < frame (Have kind.Field key v) → ⊥
+  pub no_field : (key v : List Value) (found : Option ℕ) → number_of key ≡ found → 0 < frame (Have kind.Field key v) → ⊥
   no_field key v None e has = none_of_fresh {frame = frame} kind.Field key v f frame_within (ap (λ (x : Option ℕ). under x (λ place. one (slice_get g.walk.fields place))) e) has
   no_field key v (Some i) e has = elim (behind_or_within i (length olds)) [
     | inl inside ↦
@@ -332,7 +335,7 @@ module _ (o : Proof) (w : World) (g : Ghost) (env : Env) (n operation : ℕ) (ar
         (ap (λ (x : Option ℕ). under x (λ place. one (slice_get g.walk.fields place))) e ∙ ap one (none_behind g.walk.fields i (let a = c.fields in omega arith))) has
   ]
 
-  no_lease : (key v : List Value) (found : Option ℕ) → number_of key ≡ found → listed_at leases found ≡ true → 0 < frame (Have kind.FieldLease key v) → ⊥
+  pub no_lease : (key v : List Value) (found : Option ℕ) → number_of key ≡ found → listed_at leases found ≡ true → 0 < frame (Have kind.FieldLease key v) → ⊥
   no_lease key v None e listed has = absurd cc
   no_lease key v (Some i) e listed has =
       let (l, given, same) = listed_has (IsGiven env news own) leases i each listed in
@@ -340,19 +343,24 @@ module _ (o : Proof) (w : World) (g : Ghost) (env : Env) (n operation : ℕ) (ar
       none_of_held own frame kind.FieldLease key (value_under env l.old ∷ []) v f parts refl
       (subst (λ (x : List Value). 0 < own (Have kind.FieldLease x (value_under env l.old ∷ []))) (sym key_is) given.1) has
 
+module _ (o : Proof) (w : World) (g : Ghost) (env : Env) (n operation : ℕ) (args olds news : List TermTree) (leases : List Leased) (whole own frame : Piece) (c : IsConsistent o w g)
+    (f : Fits whole (told (shape_of o) w g)) (parts : (e : Resource) → own e + frame e ≤ whole e) (called : g.walk.table n ≡ Called operation (valued env args))
+    (token : 0 < own (Have kind.Token (val.Call n ∷ []) (val.Word operation ∷ valued env args)))
+    (fields : (i : ℕ) (t : TermTree) → slice_get olds i ≡ Some t → 0 < own (Have kind.Field (val.Word i ∷ []) (value_under env t ∷ [])))
+    (each : EachLease (IsGiven env news own) leases) (long : length olds ≡ length o.leased) where
   pub none_framed : (k : Kind) (key v : List Value) → renews_at n leases k key ≡ true → 0 < frame (Have k key v) → ⊥
   none_framed kind.Token key v chosen has =
       none_of_held own frame kind.Token key (val.Word operation ∷ valued env args) v f parts refl
       (subst (λ (x : List Value). 0 < own (Have kind.Token x (val.Word operation ∷ valued env args))) (sym (same_key key (val.Call n ∷ []) chosen)) token) has
   none_framed kind.Done key v chosen has =
-      none_of_fresh {frame = frame} kind.Done key v f frame_within
+      none_of_fresh {frame = frame} kind.Done key v f (frame_within o w g env olds news leases whole own frame c f parts fields each long)
       (ap (λ (x : List Value). told (shape_of o) w g kind.Done x) (same_key key (val.Call n ∷ []) chosen) ∙ ap (λ (s : Standing Value). acted_with s (g.kept n)) called) has
-  none_framed kind.Field key v chosen has = no_field key v (number_of key) refl has
-  none_framed kind.FieldLease key v chosen has = no_lease key v (number_of key) refl chosen has
+  none_framed kind.Field key v chosen has = no_field o w g env olds news leases whole own frame c f parts fields each long key v (number_of key) refl has
+  none_framed kind.FieldLease key v chosen has = no_lease o w g env olds news leases whole own frame c f parts fields each long key v (number_of key) refl chosen has
   none_framed _ key v chosen has = absurd cc
 
 -- the fields are owned by what has them all
-owned_fields : (env : Env) (olds news : List TermTree) → length news ≡ length olds → (q part : Piece) → ((e : Resource) → part e ≤ q e) → (preds : List Predicate)
+pub owned_fields : (env : Env) (olds news : List TermTree) → length news ≡ length olds → (q part : Piece) → ((e : Resource) → part e ≤ q e) → (preds : List Predicate)
     → StandForAll preds env (olds_of (fields_become 0 olds news)) part → (i : ℕ) (t : TermTree) → slice_get olds i ≡ Some t → 0 < q (Have kind.Field (val.Word i ∷ []) (value_under env t ∷ []))
 owned_fields env olds news long q part le preds s i t e =
     let has = fields_have preds env 0 olds news part long s i t e in
@@ -364,7 +372,7 @@ owned_fields env olds news long q part le preds s i t e =
     from_zero m = omega arith
 
 -- a lease that is owned is of a leased field
-leased_each : (o : Proof) (w : World) (g : Ghost) (env : Env) (news : List TermTree) (q : Piece) (leases : List Leased) {whole : Piece} → ((e : Resource) → q e ≤ whole e)
+pub leased_each : (o : Proof) (w : World) (g : Ghost) (env : Env) (news : List TermTree) (q : Piece) (leases : List Leased) {whole : Piece} → ((e : Resource) → q e ≤ whole e)
     → Fits whole (told (shape_of o) w g) → EachLease (IsGiven env news q) leases → EachLease (λ l. (slice_get news l.place ≡ Some l.new) × (is_leased (slice_get o.leased l.place) ≡ true)) leases
 leased_each o w g env news q [] le f each = tt
 leased_each o w g env news q (l ∷ leases) le f each = (

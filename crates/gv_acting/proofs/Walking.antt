@@ -20,7 +20,7 @@ entries_then (move.Boot cs ∷ moves) n choices = ap (λ (es : List (Entry Value
 entries_then (move.Other e ∷ moves) n choices = ap (λ (es : List (Entry Value)). e ∷ es) (entries_then moves n choices)
 
 module _ (atomic : Specification (List Value) Value) where
-  walk_then : (moves : List (Move Value)) (w : WalkState (List Value) Value) (end : WalkState (List Value) Value) (m : Move Value) → walk_from atomic w moves ≡ Ok end
+  pub walk_then : (moves : List (Move Value)) (w : WalkState (List Value) Value) (end : WalkState (List Value) Value) (m : Move Value) → walk_from atomic w moves ≡ Ok end
       → walk_from atomic w (moves ++ m ∷ []) ≡ onward (λ next. Ok next) (walk_moved atomic end m)
   walk_then [] w end m e = let same : w ≡ end = ok_same w end e in ap (λ x. onward (λ next. Ok next) (walk_moved atomic x m)) same
     where

@@ -9,6 +9,7 @@ use Rattle.gv_seats.specs.Changes as change
 use Rattle.gv_seats.specs.Changes.{Shares}
 use Rattle.gv_seats.specs.Soundness.{IsSoundMove}
 use Rattle.gv_acting.specs.Acts.{Acts, call_number}
+use Rattle.gv_acting.specs.Boots.{Boots, IsSoundBoot}
 use Rattle.gv_acting.specs.Rows.{BeginsSharing, EndsSharing}
 
 -- recovery begins to share, and ends it
@@ -23,3 +24,7 @@ SharingLaw = (o : Proof) (h k : Path) → SharingLaws o h k
 abbrev pub ActsLaw : Type 0
 ActsLaw = (o : Proof) (h : Path) (call : TermTree) (choices : List TermTree) (k : Path) → Acts o h call choices k
     → IsSoundMove o (λ env. change.Acts (call_number (value_under env call)) (map (number_under env) choices)) h (k ∷ [])
+
+-- recovery has returned
+abbrev pub BootsLaw : Type 0
+BootsLaw = (o : Proof) (h : Path) (choices : List TermTree) (k : Path) → Boots o h choices k → IsSoundBoot o choices h k

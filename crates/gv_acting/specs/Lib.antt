@@ -1,3 +1,4 @@
 pub mod Rows
 pub mod Acts
+pub mod Boots
 pub mod Laws

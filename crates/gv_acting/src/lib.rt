@@ -3,4 +3,4 @@
 
 mod laws;
 
-pub use laws::{acts_sound, sharing_sound};
+pub use laws::{acts_sound, boots_sound, sharing_sound};
