@@ -57,7 +57,7 @@ bytes_found : (found : Option (List ℕ)) (v : Value) → in_block found ≡ Som
 bytes_found None v e = absurd cc
 bytes_found (Some bytes) v e = (bytes, refl, cc)
 
-below_is : (m n : ℕ) → nat_lt m n ≡ true → m < n
+pub below_is : (m n : ℕ) → nat_lt m n ≡ true → m < n
 below_is m n e = elim (below_test m n) [ inl (l, t) ↦ l | inr (l, t) ↦ (let never : true ≡ false = sym e ∙ t in absurd cc) ]
 
 pub block_is : (o : Proof) (w : World) (g : Ghost) (d n : ℕ) (v : Value) → AreShadows o w g → block_at (shape_of o) g d n ≡ Some (v ∷ []) → Block o w g d n v

@@ -65,7 +65,7 @@ use Rattle.gv_slicing.proofs.Truths.{number_value, one_value}
 
 -- ---- values
 
-slice_is : (v : Val) (s : SliceVal) → plain v ≡ Some (val.SliceS s) → v ≡ stored.Slice s
+pub slice_is : (v : Val) (s : SliceVal) → plain v ≡ Some (val.SliceS s) → v ≡ stored.Slice s
 slice_is (stored.Slice t) s e = let same : t ≡ s = cc in ap stored.Slice same
 slice_is (stored.Word m) s e = absurd cc
 slice_is (stored.Ref r) s e = absurd cc
@@ -73,7 +73,7 @@ slice_is (stored.Bool b) s e = absurd cc
 slice_is (stored.Byte b) s e = absurd cc
 slice_is stored.Unit s e = absurd cc
 
-slice_value : (x : Value) → sort_of_value x ≡ Some sort.SliceS → (s : SliceVal) × (x ≡ val.SliceS s)
+pub slice_value : (x : Value) → sort_of_value x ≡ Some sort.SliceS → (s : SliceVal) × (x ≡ val.SliceS s)
 slice_value (val.SliceS s) e = (s, refl)
 slice_value _ e = absurd cc
 
@@ -126,7 +126,7 @@ cells_long (b ∷ bytes) = ap suc (cells_long bytes)
 
 -- ---- the cells of a slice that is owned
 
-owns_item : (k : Kind) (s : SliceVal) (place : ℕ) (items : List Value) (p : Piece) (i : ℕ) (v : Value) → OwnsItems k s place items p → slice_get items i ≡ Some v
+pub owns_item : (k : Kind) (s : SliceVal) (place : ℕ) (items : List Value) (p : Piece) (i : ℕ) (v : Value) → OwnsItems k s place items p → slice_get items i ≡ Some v
     → 0 < p (Have k (cell_key s (place + i)) (v ∷ []))
 owns_item k s place [] p i v h e = absurd cc
 owns_item k s place (u ∷ items) p zero v h e =
@@ -135,11 +135,11 @@ owns_item k s place (u ∷ items) p zero v h e =
 owns_item k s place (u ∷ items) p (suc i) v h e =
     subst (λ (n : ℕ). 0 < p (Have k (cell_key s n) (v ∷ []))) (omega arith) (owns_item k s (place + 1) items p i v h.1 e)
 
-item_told : (z : Shape) (w : World) (g : Ghost) (frozen : Bool) (o i : ℕ) (x : Value) → told z w g (item_kind frozen) (val.Ref o ∷ val.Word i ∷ []) ≡ Some (x ∷ []) → Found w o i x
+pub item_told : (z : Shape) (w : World) (g : Ghost) (frozen : Bool) (o i : ℕ) (x : Value) → told z w g (item_kind frozen) (val.Ref o ∷ val.Word i ∷ []) ≡ Some (x ∷ []) → Found w o i x
 item_told z w g false o i x e = found_in w o i x _ refl (only_if_is _ _ (x ∷ []) e)
 item_told z w g true o i x e = found_in w o i x _ refl (only_if_is _ _ (x ∷ []) e)
 
-byte_is : (v : Val) (b : ℕ) → value_of v ≡ val.Bytes (b ∷ []) → v ≡ stored.Byte b
+pub byte_is : (v : Val) (b : ℕ) → value_of v ≡ val.Bytes (b ∷ []) → v ≡ stored.Byte b
 byte_is (stored.Byte c) b e = let same : c ≡ b = cc in ap stored.Byte same
 byte_is (stored.Word n) b e = absurd cc
 byte_is (stored.Bool t) b e = absurd cc
@@ -150,10 +150,10 @@ byte_is stored.Unit b e = absurd cc
 cell_made : (v : Val) (m : Bool) (b : ℕ) → v ≡ stored.Byte b → m ≡ false → record { value = v; marked = m } ≡ byte_cell b
 cell_made v m b e q = rw (e, q) refl
 
-byte_at : (bytes : List ℕ) (i b : ℕ) → slice_get bytes i ≡ Some b → slice_get (map (λ c. val.Bytes (c ∷ [])) bytes) i ≡ Some (val.Bytes (b ∷ []))
-byte_at [] i b e = absurd cc
-byte_at (c ∷ bytes) zero b e = let same : c ≡ b = cc in ap (λ (x : ℕ). Some (val.Bytes (x ∷ []))) same
-byte_at (c ∷ bytes) (suc i) b e = byte_at bytes i b e
+pub mapped_at : (f : ℕ → Value) (xs : List ℕ) (i x : ℕ) → slice_get xs i ≡ Some x → slice_get (map f xs) i ≡ Some (f x)
+mapped_at f [] i x e = absurd cc
+mapped_at f (y ∷ xs) zero x e = let same : y ≡ x = cc in ap (λ (z : ℕ). Some (f z)) same
+mapped_at f (y ∷ xs) (suc i) x e = mapped_at f xs i x e
 
 items_long : (bytes : List ℕ) → length (map (λ c. val.Bytes (c ∷ [])) bytes) ≡ length bytes
 items_long [] = refl
@@ -164,7 +164,7 @@ module _ (z : Shape) (w : World) (g : Ghost) (all : Piece) (f : Fits all (told z
   abbrev key : List Value
   key = val.Ref o ∷ val.Word i ∷ []
 
-  not_mine : (frozen : Bool) → 0 < mine (Have (item_kind frozen) key v) → OwnsTarget rest (CellAt o i) → ⊥
+  pub not_mine : (frozen : Bool) → 0 < mine (Have (item_kind frozen) key v) → OwnsTarget rest (CellAt o i) → ⊥
   not_mine false has other = apart z w g all f mine rest parts (CellAt o i) (inr (v, has)) other
   not_mine true has (inl (u, other)) =
       let a = parts (Have kind.FrozenItem key v) in
@@ -210,7 +210,7 @@ slice_bytes z w g all f frozen s (b0 ∷ more) mine rest parts h still some =
     found_at : (items : List Value) → map (λ (c : ℕ). val.Bytes (c ∷ [])) (b0 ∷ more) ≡ items → OwnsItems (item_kind frozen) s 0 items mine → (i b : ℕ) → slice_get (b0 ∷ more) i ≡ Some b
         → slice_get (cells_in (object_at w s.object)) (s.offset + i) ≡ Some (byte_cell b)
     found_at items are owned i b e =
-        let item : slice_get items i ≡ Some (val.Bytes (b ∷ [])) = subst (λ (xs : List Value). slice_get xs i ≡ Some (val.Bytes (b ∷ []))) are (byte_at (b0 ∷ more) i b e) in
+        let item : slice_get items i ≡ Some (val.Bytes (b ∷ [])) = subst (λ (xs : List Value). slice_get xs i ≡ Some (val.Bytes (b ∷ []))) are (mapped_at (λ (c : ℕ). val.Bytes (c ∷ [])) (b0 ∷ more) i b e) in
         let has : 0 < mine (Have (item_kind frozen) (val.Ref s.object ∷ val.Word (s.offset + i) ∷ []) (val.Bytes (b ∷ []) ∷ [])) =
         subst (λ (n : ℕ). 0 < mine (Have (item_kind frozen) (cell_key s n) (val.Bytes (b ∷ []) ∷ []))) (omega arith) (owns_item (item_kind frozen) s 0 items mine i (val.Bytes (b ∷ [])) owned item) in
         let within = parts (Have (item_kind frozen) (val.Ref s.object ∷ val.Word (s.offset + i) ∷ []) (val.Bytes (b ∷ []) ∷ [])) in

@@ -4,3 +4,4 @@ pub mod Fresh
 pub mod DiskReads
 pub mod DiskWrites
 pub mod SliceMakes
+pub mod Items

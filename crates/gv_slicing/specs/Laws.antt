@@ -7,7 +7,7 @@ use Rattle.gv_seats.specs.Seats.{Proof}
 use Rattle.gv_seats.specs.Changes.{SetsBlock, changes_nothing}
 use Rattle.gv_seats.specs.Scoping.{IsScoped}
 use Rattle.gv_seats.specs.Soundness.{IsSoundStep}
-use Rattle.gv_slicing.specs.Rows.{ReadsDisk, WritesDisk, MakesSlice}
+use Rattle.gv_slicing.specs.Rows.{ReadsDisk, WritesDisk, MakesSlice, ReadsItem}
 
 abbrev pub ReadsLaw : Type 0
 ReadsLaw = (o : Proof) (h : Path) (ks : List Path) → ReadsDisk o h ks → IsScoped h → IsSoundStep o changes_nothing h ks
@@ -18,3 +18,6 @@ WritesLaw = (o : Proof) (h : Path) (d : ℕ) (address : TermTree) (k : Path) →
 
 abbrev pub MakesLaw : Type 0
 MakesLaw = (o : Proof) (h k : Path) → MakesSlice h k → IsScoped h → IsSoundStep o changes_nothing h (k ∷ [])
+
+abbrev pub ItemsLaw : Type 0
+ItemsLaw = (o : Proof) (h k : Path) → ReadsItem h k → IsSoundStep o changes_nothing h (k ∷ [])

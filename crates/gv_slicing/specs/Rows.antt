@@ -14,7 +14,7 @@ use Rattle.gv_terms.specs.Trees.{sort_of}
 use Rattle.gv_world.specs.Store.{block_bytes}
 use Rattle.gv_lang.specs.declared.program.ItemKind.{ItemKind}
 use Rattle.gv_lang.specs.declared.program.ItemKind.TheVariants as item
-use Rattle.gv_lang.specs.Tree.{Expr, DiskRead2, DiskWrite, MakeSlice, Do}
+use Rattle.gv_lang.specs.Tree.{Expr, DiskRead2, DiskWrite, MakeSlice, At, Do}
 use Rattle.gv_lang.specs.Todo.{Todo, Run}
 use Rattle.gv_resources.specs.Kinds as kind
 use Rattle.gv_resources.specs.Kinds.{Kind}
@@ -115,3 +115,12 @@ pub data MakesSlice (h : Path) : Path → Type 0 where
       → h.todo ≡ Run (Do (MakeSlice x item e) place) ∷ rest → IsLocal h x → term_of h.locals e ≡ Some n → sort_of n ≡ Some sort.Word → is_closed h.vars n ≡ true
       → AreKnown h (less n (number too_long) ∷ []) → s.sort ≡ sort.SliceS → z.sort ≡ list_sort item → AreNew h.vars (s ∷ z ∷ [])
       → MakesSlice h (made_path h rest x s z n)
+
+-- ---- x = s[i]
+
+-- an item of a slice that is owned or read-only, where it is known to have one under the number
+pub data ReadsItem (h : Path) : Path → Type 0 where
+  items : (x : ℕ) (e i : Expr) (s t n : TermTree) (frozen : Bool) (left : List Atom) (place : Place) (rest : Todo) → MayStep h
+      → h.todo ≡ Run (Do (At x e i) place) ∷ rest → IsLocal h x → term_of h.locals e ≡ Some s → sort_of s ≡ Some sort.SliceS
+      → term_of h.locals i ≡ Some n → sort_of n ≡ Some sort.Word → Takes h.atoms (Slice frozen s t) left → AreKnown h (less n (one_of op.Len t) ∷ [])
+      → ReadsItem h (goes_on h rest (slice_set h.locals x (Some (tree.Apply op.At (t ∷ n ∷ [])))) h.atoms)

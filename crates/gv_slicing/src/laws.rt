@@ -1,6 +1,6 @@
 //! Laws of the definitions in this crate. Each function does nothing: its contract is the law.
 
-ghost use Rattle.gv_slicing.specs.Laws.{MakesLaw, ReadsLaw, WritesLaw};
+ghost use Rattle.gv_slicing.specs.Laws.{ItemsLaw, MakesLaw, ReadsLaw, WritesLaw};
 
 /// Reading a block of one of two disks gives its bytes in a new slice, or shows that the disk has failed.
 pub fn reads_sound()
@@ -16,4 +16,9 @@ pub fn writes_sound()
 /// Making a slice gives one of zeros, which nobody had before.
 pub fn makes_sound()
     ensures { MakesLaw }
+{}
+
+/// An item of a slice that is owned or read-only is read, where the slice is known to have it.
+pub fn items_sound()
+    ensures { ItemsLaw }
 {}

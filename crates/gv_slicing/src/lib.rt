@@ -3,4 +3,4 @@
 
 mod laws;
 
-pub use laws::{makes_sound, reads_sound, writes_sound};
+pub use laws::{items_sound, makes_sound, reads_sound, writes_sound};
