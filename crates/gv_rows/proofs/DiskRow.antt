@@ -28,7 +28,7 @@ use Rattle.gv_rows.proofs.Inversion.{told_law}
 use Rattle.gv_rows.proofs.Rules.{taken_formed, one_value, replaced}
 
 -- what a path's facts make known is true
-all_true : (env : Env) (facts : List TermTree) → AreTrueUnder env facts → All (IsTrueUnder env) facts
+pub all_true : (env : Env) (facts : List TermTree) → AreTrueUnder env facts → All (IsTrueUnder env) facts
 all_true env [] h = All-nil (IsTrueUnder env)
 all_true env (f ∷ facts) h = All-cons (IsTrueUnder env) f facts h.0 (all_true env facts h.1)
 
@@ -46,11 +46,11 @@ block_found h k key x single formed spot =
     record { v = v; value = one; at = spot.at ∙ ap (λ (r : Head). Some (atom_of r key x.value)) root ∙ ap (λ (xs : List TermTree). Some (Owns k key xs)) one }
 
 -- a slice that was found
-record SliceFound (h : Path) (s : TermTree) (x : Spot) : Type 0 where
-  frozen : Bool
-  taken : Takes h.atoms (Slice frozen s (first_of x.value)) x.others
+pub record SliceFound (h : Path) (s : TermTree) (x : Spot) : Type 0 where
+  pub frozen : Bool
+  pub taken : Takes h.atoms (Slice frozen s (first_of x.value)) x.others
 
-slice_found : (h : Path) (s : TermTree) (x : Spot) → IsSpot (Cells false) (Cells true) (s ∷ []) h.atoms x → SliceFound h s x
+pub slice_found : (h : Path) (s : TermTree) (x : Spot) → IsSpot (Cells false) (Cells true) (s ∷ []) h.atoms x → SliceFound h s x
 slice_found h s x spot = elim spot.root [
   | inl e ↦ record { frozen = false; taken = subst (λ (r : Head). Takes h.atoms (atom_of r (s ∷ []) x.value) x.others) e spot.taken }
   | inr e ↦ record { frozen = true; taken = subst (λ (r : Head). Takes h.atoms (atom_of r (s ∷ []) x.value) x.others) e spot.taken }

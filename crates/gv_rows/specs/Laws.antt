@@ -6,7 +6,7 @@ use Rattle.gv_terms.specs.declared.sort.Sort.TheVariants as sort
 use Rattle.gv_terms.specs.declared.tree.TermTree.{TermTree}
 use Rattle.gv_terms.specs.Trees.{sort_of}
 use Rattle.gv_certs.specs.declared.cause.Cause.TheVariants as cause
-use Rattle.gv_lang.specs.Tree.{Expr, Load, Store, DiskWrite, Do}
+use Rattle.gv_lang.specs.Tree.{Expr, Load, Store, At, DiskWrite, Do}
 use Rattle.gv_lang.specs.Todo.{Todo, Run}
 use Rattle.gv_resources.specs.Kinds as kind
 use Rattle.gv_resources.specs.Kinds.{cell_kind}
@@ -19,7 +19,7 @@ use Rattle.gv_seats.specs.Soundness.{IsSoundStep, IsSoundWrite}
 use Rattle.gv_rules.specs.Rows.{MayStep, MayWrite, IsLocal, IsLocalSort}
 use Rattle.gv_rows.specs.Formed.{AreFormed}
 use Rattle.gv_rows.specs.Rows.{Step, State, apply_row, started}
-use Rattle.gv_rows.specs.Table.{load_row, store_row, disk_write_row}
+use Rattle.gv_rows.specs.Table.{load_row, store_row, at_row, disk_write_row}
 use Rattle.gv_rows.specs.Told.{Told}
 
 -- where a row has been applied, its premises hold, one after another, and it came to what it gives
@@ -69,3 +69,10 @@ DiskWriteRowLaw = (o : Proof) (h : Path) (t : State) (d : ℕ) (dd a e : Expr) (
     → ((frozen : Bool) (items : TermTree) (left : List Atom) → Takes h.atoms (Slice frozen s items) left → sort_of items ≡ Some sort.Bytes)
     → apply_row [] disk_write_row (started h (number d ∷ address ∷ s ∷ number o.blocks ∷ [])) ≡ Ok t
     → IsSoundStep o (λ env. SetsBlock d (number_under env address)) h (goes_on h rest t.path.locals t.path.atoms ∷ [])
+
+-- and the read of an item of a slice
+abbrev pub ItemRowLaw : Type 0
+ItemRowLaw = (o : Proof) (h : Path) (t : State) (x : ℕ) (e i : Expr) (s n : TermTree) (place : Place) (rest : Todo) → MayStep h
+    → h.todo ≡ Run (Do (At x e i) place) ∷ rest → IsLocal h x → term_of h.locals e ≡ Some s → sort_of s ≡ Some sort.SliceS → term_of h.locals i ≡ Some n
+    → sort_of n ≡ Some sort.Word → apply_row (x ∷ []) at_row (started h (s ∷ n ∷ [])) ≡ Ok t
+    → IsSoundStep o changes_nothing h (goes_on h rest t.path.locals t.path.atoms ∷ [])

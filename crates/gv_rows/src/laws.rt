@@ -1,6 +1,6 @@
 //! Laws of the definitions in this crate. Each function does nothing: its contract is the law.
 
-ghost use Rattle.gv_rows.specs.Laws.{DiskWriteRowLaw, LoadRowLaw, StoreRowLaw, ToldLaw, WorkedRowsLaw};
+ghost use Rattle.gv_rows.specs.Laws.{DiskWriteRowLaw, ItemRowLaw, LoadRowLaw, StoreRowLaw, ToldLaw, WorkedRowsLaw};
 
 /// Where a row has been applied, its premises hold, one after another.
 pub fn rows_told()
@@ -25,4 +25,9 @@ pub fn worked_rows()
 /// Where the row of a write of a block is applied, the write is sound beside every rest.
 pub fn disk_write_row_sound()
     ensures { DiskWriteRowLaw }
+{}
+
+/// Where the row of a read of an item is applied, the read is sound.
+pub fn item_row_sound()
+    ensures { ItemRowLaw }
 {}

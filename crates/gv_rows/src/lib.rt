@@ -3,4 +3,6 @@
 
 mod laws;
 
-pub use laws::{disk_write_row_sound, load_row_sound, rows_told, store_row_sound, worked_rows};
+pub use laws::{
+    disk_write_row_sound, item_row_sound, load_row_sound, rows_told, store_row_sound, worked_rows,
+};
