@@ -1,0 +1,4 @@
+pub mod Lockstep
+pub mod Sites
+pub mod Ways
+pub mod Worked
