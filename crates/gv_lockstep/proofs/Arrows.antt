@@ -1,9 +1,8 @@
 -- Successors are exactly what the table of steps leads to.
-use Rattle.std.proofs.Common.{◌≡◌, ◌∙◌, ℕ, zero, suc, ◌+◌, ◌<◌, List, [], ◌∷◌, Bool, true, false, Option, Some, None, refl, ap, sym, subst, arith, Contains}
+use Rattle.std.proofs.Common.{◌≡◌, ◌∙◌, ℕ, zero, suc, ◌<◌, List, [], ◌∷◌, Bool, true, false, Option, Some, None, refl, ap, sym, subst, arith, Contains}
 use Rattle.std.specs.List.{AllByRecursion}
 use Rattle.gv_lang.specs.Tree.{Cmd, Do, If, Loop, Break, Continue, Return, Block, finish, next}
 use Rattle.gv_lang.specs.Graph.{Point, size, points}
-use Rattle.gv_lang.specs.Shape.{is_shaped}
 use Rattle.gv_lockstep.specs.Sites.{Numbered, RunAt, numbered_put, numbered_onward, here, number, Site, to_do, sites, reached, point_of, nth}
 use Rattle.gv_lockstep.specs.Lockstep.{Leads, EntryIsFirst, GraphLaw}
 use Rattle.gv_lockstep.proofs.Lists.{mapped_nth, nth_mapped, all_nth, all_contains}

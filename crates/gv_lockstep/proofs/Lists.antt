@@ -1,5 +1,5 @@
 -- Lists, and what all of their items meet.
-use Rattle.std.proofs.Common.{◌≡◌, ◌∙◌, ℕ, zero, suc, ◌+◌, ◌<◌, ◌≤◌, List, [], ◌∷◌, ◌++◌, length, Bool, true, false, ◌&&◌, ◌||◌, not, Option, Some, refl, ap, subst, arith, slice_get, map, Contains}
+use Rattle.std.proofs.Common.{◌≡◌, ◌∙◌, ℕ, zero, suc, ◌+◌, ◌<◌, List, [], ◌∷◌, ◌++◌, length, Bool, true, false, ◌&&◌, ◌||◌, not, Some, refl, ap, subst, arith, slice_get, map, Contains}
 use Rattle.std.specs.List.{AllByRecursion, list_all}
 use Rattle.gv_lockstep.specs.Sites.{nth}
 

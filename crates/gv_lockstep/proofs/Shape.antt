@@ -1,5 +1,5 @@
 -- In a body of a good shape each successor is a point.
-use Rattle.std.proofs.Common.{◌≡◌, ℕ, suc, ◌+◌, ◌<◌, ◌≤◌, List, [], ◌∷◌, ◌++◌, Bool, true, false, ◌&&◌, ◌||◌, not, refl, arith}
+use Rattle.std.proofs.Common.{◌≡◌, ℕ, suc, ◌+◌, ◌<◌, ◌≤◌, List, [], true, false, ◌&&◌, not, refl, arith}
 use Rattle.std.specs.List.{AllByRecursion}
 use Rattle.gv_lang.specs.Tree.{Cmd, Do, If, Loop, Break, Continue, Return, Block, finish, next}
 use Rattle.gv_lang.specs.Graph.{Point, size, command_size, entry, block_points, command_points, points}

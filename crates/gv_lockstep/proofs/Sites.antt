@@ -1,8 +1,8 @@
 -- Points and sites of a body are the same, and the table goes the same ways with numbers.
-use Rattle.std.proofs.Common.{◌≡◌, ◌∙◌, ℕ, zero, suc, ◌+◌, List, [], ◌∷◌, ◌++◌, length, Bool, true, false, Option, Some, None, refl, ap, sym, subst, arith, slice_get, map, length-append}
+use Rattle.std.proofs.Common.{◌≡◌, ℕ, zero, suc, ◌+◌, List, [], ◌∷◌, ◌++◌, length, Bool, true, false, Some, refl, ap, sym, subst, arith, slice_get, map, length-append}
 use Rattle.std.specs.Prelude.{option_map}
 use Rattle.gv_lang.specs.Tree.{Cmd, Do, If, Loop, Break, Continue, Return, Block, finish, next}
-use Rattle.gv_lang.specs.Todo.{Run, Mark, put, left, repeated, onward}
+use Rattle.gv_lang.specs.Todo.{Run, put, left, repeated, onward}
 use Rattle.gv_lang.specs.Graph.{size, command_size, entry, block_points, command_points}
 use Rattle.gv_lockstep.specs.Sites.{Numbered, RunAt, MarkAt, plain, numbered_put, numbered_left, numbered_repeated, numbered_onward, here, number, Site, block_sites, command_sites, sites, point_of, nth}
 use Rattle.gv_lockstep.specs.Lockstep.{NumbersAreAside, PointsAreSites}

@@ -1,5 +1,5 @@
 -- Frames go from point to point.
-use Rattle.std.proofs.Common.{◌≡◌, ◌∙◌, ℕ, zero, suc, ◌<◌, List, [], ◌∷◌, Bool, true, false, ◌&&◌, Option, Some, None, refl, ap, sym, subst, arith, slice_get, map, length, nat_le, Contains}
+use Rattle.std.proofs.Common.{◌≡◌, ◌∙◌, ℕ, List, [], ◌∷◌, Bool, true, false, ◌&&◌, Option, Some, None, refl, ap, sym, subst, slice_get, map, length, nat_le}
 use Rattle.std.specs.List.{AllByRecursion, list_all}
 use Rattle.std.specs.Prelude.{option_map}
 use Rattle.gv_base.specs.declared.answer.Answer.{Answer}
@@ -8,26 +8,26 @@ use Rattle.gv_base.specs.declared.val.Val.{Val}
 use Rattle.gv_world.specs.Answers.{and_then}
 use Rattle.gv_world.specs.Store.{Store as World}
 use Rattle.gv_lang.specs.Tree.{Proc, Program}
-use Rattle.gv_lang.specs.Todo.{Todo, put, head, onward}
+use Rattle.gv_lang.specs.Todo.{Todo, head, onward}
 use Rattle.gv_lang.specs.Threads.{Frame, Thread, new_frame, thread_of}
 use Rattle.gv_lang.specs.Table.{Effect, Goes, Begins, Pushes, Starts, Pops, effect}
-use Rattle.gv_lang.specs.Step.{Stepped, GoesOn, truth, assigned, returned, with_todo, moved, settled, stepped}
-use Rattle.gv_lang.specs.Graph.{Point, points}
+use Rattle.gv_lang.specs.Step.{Stepped, GoesOn, truth, assigned, returned, with_todo, moved, settled}
+use Rattle.gv_lang.specs.Graph.{points}
 use Rattle.gv_lang.specs.Shape.{is_shaped}
 use Rattle.gv_lang.specs.Kinds.{is_typed_block}
 use Rattle.gv_lang.specs.WellShaped.{is_fine_proc, is_recovery, is_operation, method_at, are_distinct, are_few, is_well_shaped}
-use Rattle.gv_lockstep.specs.Sites.{Numbered, plain, numbered_put, numbered_onward, here, Site, to_do, sites, point_of, bare, nth}
-use Rattle.gv_lockstep.specs.Ways.{IsAt, IsArrow, IsWay, CameBy, Came, frames, Continues, stays, moves, calls, returns, AtEntry, Begin, GoTogether, IsReached, begins, goes_on, is_started, AllCame, Lockstep, LockstepLaw}
+use Rattle.gv_lockstep.specs.Sites.{Numbered, plain, numbered_onward, here, Site, to_do, sites, point_of, bare, nth}
+use Rattle.gv_lockstep.specs.Ways.{IsAt, IsArrow, IsWay, CameBy, Came, frames, Continues, stays, moves, calls, returns, AtEntry, Begin, GoTogether, begins, goes_on, is_started, AllCame, AreGraphs, LockstepLaw}
 use Rattle.gv_lockstep.proofs.Lists.{and_left, and_right, test_get, all_contains}
 use Rattle.gv_lockstep.proofs.Sites.{plain_put, plain_onward}
 use Rattle.gv_lockstep.proofs.Shape.{TargetsAreIn, targets_are_in}
-use Rattle.gv_lockstep.proofs.Arrows.{point_there, onward_stands, entry_is_first}
+use Rattle.gv_lockstep.proofs.Arrows.{point_there, onward_stands, entry_is_first, graph_law}
 use Rattle.gv_lockstep.proofs.News.{Enters, IsNew, IfNew, effect_new}
 
 -- ---- well-shaped programs
 
-shaped : (g : Program) (f : ℕ) (p : Proc) → is_well_shaped g ≡ true → slice_get g.procs f ≡ Some p → TargetsAreIn p.body
-shaped g f p s e =
+body_is_shaped : (g : Program) (f : ℕ) (p : Proc) → is_well_shaped g ≡ true → slice_get g.procs f ≡ Some p → is_shaped p.body ≡ true
+body_is_shaped g f p s e =
     let a1 = and_left (list_all (is_fine_proc g) g.procs && is_recovery (slice_get g.procs g.recover)
     && list_all (λ op. is_operation (slice_get g.procs op)) g.ops && are_distinct (map (method_at g) g.ops)) (are_few g) s in
     let a2 = and_left (list_all (is_fine_proc g) g.procs && is_recovery (slice_get g.procs g.recover)
@@ -35,7 +35,13 @@ shaped g f p s e =
     let a3 = and_left (list_all (is_fine_proc g) g.procs && is_recovery (slice_get g.procs g.recover)) (list_all (λ op. is_operation (slice_get g.procs op)) g.ops) a2 in
     let a4 = and_left (list_all (is_fine_proc g) g.procs) (is_recovery (slice_get g.procs g.recover)) a3 in
     let fine = test_get (is_fine_proc g) g.procs f p a4 e in
-    targets_are_in p.body (and_right (nat_le p.params (length p.locals) && is_typed_block g p.locals p.results p.body) (is_shaped p.body) fine)
+    and_right (nat_le p.params (length p.locals) && is_typed_block g p.locals p.results p.body) (is_shaped p.body) fine
+
+shaped : (g : Program) (f : ℕ) (p : Proc) → is_well_shaped g ≡ true → slice_get g.procs f ≡ Some p → TargetsAreIn p.body
+shaped g f p s e = targets_are_in p.body (body_is_shaped g f p s e)
+
+are_graphs : (g : Program) → is_well_shaped g ≡ true → AreGraphs g
+are_graphs g s f p e = graph_law p.body (body_is_shaped g f p s e)
 
 -- ---- one frame
 
@@ -190,4 +196,4 @@ all_came g s _ (is_started extra th after it w new started r e has) =
     ((1 ∷ []) ∷ [], all_contains (AtEntry g) started it begun has)
 
 pub lockstep_law : LockstepLaw
-lockstep_law g s = record { begin = begin g s; together = go_together g s; came = all_came g s }
+lockstep_law g s = record { graphs = are_graphs g s; begin = begin g s; together = go_together g s; came = all_came g s }

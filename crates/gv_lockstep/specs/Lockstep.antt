@@ -1,7 +1,7 @@
 -- What a graph is of a body: its points are the body's sites, and its arrows are the steps of control between them.
-use Rattle.std.specs.Prelude.{◌≡◌, ℕ, ◌≤◌, ◌<◌, Bool, true, List, [], ◌∷◌, Option, Some, None, ◌↔◌, map, option_map, length, Contains}
-use Rattle.gv_lang.specs.Tree.{Cmd, Block, Program, Proc}
-use Rattle.gv_lang.specs.Todo.{Todo, put, onward}
+use Rattle.std.specs.Prelude.{◌≡◌, ℕ, Bool, true, List, [], Some, ◌↔◌, map, option_map, length, Contains}
+use Rattle.gv_lang.specs.Tree.{Block}
+use Rattle.gv_lang.specs.Todo.{put, onward}
 use Rattle.gv_lang.specs.Graph.{Point, size, points, entry}
 use Rattle.gv_lang.specs.Shape.{is_shaped}
 use Rattle.gv_lockstep.specs.Sites.{Numbered, plain, numbered_put, numbered_onward, Site, to_do, sites, point_of, nth}

@@ -132,5 +132,9 @@ reached s (Loop body place) = number (numbered_onward true (to_do s)) ∷ []
 reached s (Break place) = number (numbered_onward true (to_do s)) ∷ []
 reached s (Continue place) = number (numbered_onward true (to_do s)) ∷ []
 
+-- a command's point, with its successors
+abbrev pub point_with : Cmd → List ℕ → Point
+point_with c successors = record { action = bare c; place = place_of c; targets = targets_of c; next = successors }
+
 abbrev pub point_of : Site → Point
-point_of s = record { action = bare s.command; place = place_of s.command; targets = targets_of s.command; next = reached s s.command }
+point_of s = point_with s.command (reached s s.command)

@@ -1,15 +1,16 @@
 -- The ways that frames take through the graphs of their procedures.
-use Rattle.std.specs.Prelude.{◌≡◌, ℕ, Bool, true, List, [], ◌∷◌, Option, Some, None, option_map, slice_get, Contains}
+use Rattle.std.specs.Prelude.{◌≡◌, ℕ, true, List, [], ◌∷◌, Some, option_map, slice_get, Contains}
 use Rattle.std.specs.List.{AllByRecursion}
 use Rattle.gv_base.specs.declared.answer.Answer.TheVariants.{Next}
 use Rattle.gv_base.specs.declared.val.Val.{Val}
 use Rattle.gv_world.specs.Store.{Store as World}
-use Rattle.gv_lang.specs.Tree.{Cmd, Proc, Program}
+use Rattle.gv_lang.specs.Tree.{Proc, Program}
 use Rattle.gv_lang.specs.Todo.{head}
 use Rattle.gv_lang.specs.Threads.{Frame, Thread, new_frame, thread_of}
 use Rattle.gv_lang.specs.Step.{GoesOn, stepped}
 use Rattle.gv_lang.specs.Graph.{Point, points}
 use Rattle.gv_lang.specs.WellShaped.{is_well_shaped}
+use Rattle.gv_lockstep.specs.Lockstep.{IsGraphOf}
 use Rattle.gv_lockstep.specs.Sites.{plain, Site, to_do, sites, point_of, bare, nth}
 
 -- A frame is at point k of its procedure: what it has to do is what is to do from site k on, and its next command is the action of
@@ -91,7 +92,12 @@ pub data IsReached (g : Program) : Thread → Type 0 where
 abbrev pub AllCame : Program → Type 0
 AllCame g = (th : Thread) → IsReached g th → (ways : List (List ℕ)) × Came g (frames th) ways
 
+-- the graphs of the procedures
+abbrev pub AreGraphs : Program → Type 0
+AreGraphs g = (f : ℕ) (p : Proc) → slice_get g.procs f ≡ Some p → IsGraphOf p.body
+
 pub record Lockstep (g : Program) : Type 0 where
+  pub graphs : AreGraphs g
   pub begin : Begin g
   pub together : GoTogether g
   pub came : AllCame g
