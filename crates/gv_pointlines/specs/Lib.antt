@@ -1,0 +1,2 @@
+pub mod PointLines
+pub mod Worked
