@@ -1,10 +1,11 @@
 //! Blocks of commands, of which a procedure's body is the outermost.
 
-use crate::commands::{NOWHERE, command};
+use crate::commands::command;
 use crate::expressions::expression;
 use crate::names::Names;
+use crate::places::placed;
 use anyhow::{Result, bail};
-use gv_base::List;
+use gv_base::{List, Place};
 use gv_lang::{Cmd, Pure};
 use std::alloc::Global;
 
@@ -12,10 +13,10 @@ use std::alloc::Global;
 #[derive(Drop)]
 enum Opening {
     Body,
-    Then(Pure),
+    Then(Pure, Place),
     // the condition, and the block where it holds
-    Otherwise(Pure, List<Cmd>),
-    Loop,
+    Otherwise(Pure, Place, List<Cmd>),
+    Loop(Place),
 }
 
 // A block that isn't at its end, with its commands so far.
@@ -33,22 +34,21 @@ pub(crate) struct Blocks {
 
 // The command that a block makes at its end.
 fn closed(alloc: Global, open: Open) -> Result<Cmd> {
-    let place = NOWHERE;
     let Open { opening, commands } = open;
     match opening {
-        Opening::Then(e) => Ok(Cmd::If {
+        Opening::Then(e, place) => Ok(Cmd::If {
             e,
             then: commands,
             other: List::new(alloc),
             place,
         }),
-        Opening::Otherwise(e, then) => Ok(Cmd::If {
+        Opening::Otherwise(e, place, then) => Ok(Cmd::If {
             e,
             then,
             other: commands,
             place,
         }),
-        Opening::Loop => Ok(Cmd::Loop {
+        Opening::Loop(place) => Ok(Cmd::Loop {
             body: commands,
             place,
         }),
@@ -95,22 +95,23 @@ impl Blocks {
         };
         let Open { opening, commands } = open;
         match opening {
-            Opening::Then(e) => self.begin(alloc, Opening::Otherwise(e, commands)),
+            Opening::Then(e, place) => self.begin(alloc, Opening::Otherwise(e, place, commands)),
             _ => bail!("no condition before"),
         }
     }
 
-    /// One line of a body: a command, `if E`, `else`, `loop` or `end`.
+    /// One line of a body: a command, `if E` or `loop`, each with its place or without, `else` or `end`.
     pub(crate) fn take(&mut self, alloc: Global, names: Names<'_>, line: &str) -> Result<()> {
+        let (line, place) = placed(line)?;
         if let Some(condition) = line.strip_prefix("if ") {
             let e = expression(alloc, names, condition)?;
-            return self.begin(alloc, Opening::Then(e));
+            return self.begin(alloc, Opening::Then(e, place));
         }
         match line {
             "else" => self.otherwise(alloc),
-            "loop" => self.begin(alloc, Opening::Loop),
+            "loop" => self.begin(alloc, Opening::Loop(place)),
             "end" => self.end(alloc),
-            _ => self.add(command(alloc, names, line)?),
+            _ => self.add(command(alloc, names, line, place)?),
         }
     }
 

@@ -10,9 +10,6 @@ use gv_base::{List, Place};
 use gv_lang::{Cmd, ItemKind, Pure};
 use std::alloc::Global;
 
-/// Where each command of such a program stands.
-pub(crate) const NOWHERE: Place = Place { line: 0, column: 0 };
-
 // What stands before the operands, beside the targets.
 #[derive(Clone, Copy)]
 enum Head {
@@ -99,8 +96,7 @@ fn targets(alloc: Global, names: Names<'_>, text: &str) -> Result<Vec<u32>> {
 }
 
 // Those without operands.
-fn of_none(word: &str, xs: &[u32]) -> Option<Cmd> {
-    let place = NOWHERE;
+fn of_none(word: &str, xs: &[u32], place: Place) -> Option<Cmd> {
     match xs {
         [] => match word {
             "break" => Some(Cmd::Break { place }),
@@ -118,8 +114,7 @@ fn of_none(word: &str, xs: &[u32]) -> Option<Cmd> {
 }
 
 // Those with one operand that set a local.
-fn sets_of_one(word: &str, head: Head, x: u32, e: Pure) -> Option<Cmd> {
-    let place = NOWHERE;
+fn sets_of_one(word: &str, head: Head, x: u32, e: Pure, place: Place) -> Option<Cmd> {
     match word {
         "let" => Some(Cmd::Let { x, e, place }),
         "len" => Some(Cmd::Len { x, s: e, place }),
@@ -148,21 +143,19 @@ fn sets_of_one(word: &str, head: Head, x: u32, e: Pure) -> Option<Cmd> {
     }
 }
 
-fn of_one(word: &str, head: Head, xs: &[u32], e: Pure) -> Option<Cmd> {
-    let place = NOWHERE;
+fn of_one(word: &str, head: Head, xs: &[u32], e: Pure, place: Place) -> Option<Cmd> {
     match xs {
         [] => match word {
             "lock" => Some(Cmd::Lock { m: e, place }),
             "unlock" => Some(Cmd::Unlock { m: e, place }),
             _ => None,
         },
-        [x] => sets_of_one(word, head, *x, e),
+        [x] => sets_of_one(word, head, *x, e, place),
         _ => None,
     }
 }
 
-fn sets_of_two(word: &str, head: Head, x: u32, a: Pure, b: Pure) -> Option<Cmd> {
-    let place = NOWHERE;
+fn sets_of_two(word: &str, head: Head, x: u32, a: Pure, b: Pure, place: Place) -> Option<Cmd> {
     match word {
         "div" => Some(Cmd::Div { x, a, b, place }),
         "rem" => Some(Cmd::Rem { x, a, b, place }),
@@ -187,8 +180,7 @@ fn sets_of_two(word: &str, head: Head, x: u32, a: Pure, b: Pure) -> Option<Cmd> 
 }
 
 // Those with two operands that set two locals.
-fn sets_both(word: &str, x: u32, ok: u32, a: Pure, b: Pure) -> Option<Cmd> {
-    let place = NOWHERE;
+fn sets_both(word: &str, x: u32, ok: u32, a: Pure, b: Pure, place: Place) -> Option<Cmd> {
     match word {
         "get" => Some(Cmd::MapGet {
             x,
@@ -208,8 +200,7 @@ fn sets_both(word: &str, x: u32, ok: u32, a: Pure, b: Pure) -> Option<Cmd> {
     }
 }
 
-fn sets_nothing(word: &str, head: Head, a: Pure, b: Pure) -> Option<Cmd> {
-    let place = NOWHERE;
+fn sets_nothing(word: &str, head: Head, a: Pure, b: Pure, place: Place) -> Option<Cmd> {
     match word {
         "delete" => Some(Cmd::MapDelete { m: a, k: b, place }),
         "put64" => Some(Cmd::Put64 { s: a, v: b, place }),
@@ -227,17 +218,16 @@ fn sets_nothing(word: &str, head: Head, a: Pure, b: Pure) -> Option<Cmd> {
     }
 }
 
-fn of_two(word: &str, head: Head, xs: &[u32], a: Pure, b: Pure) -> Option<Cmd> {
+fn of_two(word: &str, head: Head, xs: &[u32], a: Pure, b: Pure, place: Place) -> Option<Cmd> {
     match xs {
-        [] => sets_nothing(word, head, a, b),
-        [x] => sets_of_two(word, head, *x, a, b),
-        [x, ok] => sets_both(word, *x, *ok, a, b),
+        [] => sets_nothing(word, head, a, b, place),
+        [x] => sets_of_two(word, head, *x, a, b, place),
+        [x, ok] => sets_both(word, *x, *ok, a, b, place),
         _ => None,
     }
 }
 
-fn of_three(word: &str, xs: &[u32], a: Pure, b: Pure, c: Pure) -> Option<Cmd> {
-    let place = NOWHERE;
+fn of_three(word: &str, xs: &[u32], a: Pure, b: Pure, c: Pure, place: Place) -> Option<Cmd> {
     match xs {
         [] => match word {
             "put" => Some(Cmd::Put {
@@ -275,22 +265,27 @@ fn of_three(word: &str, xs: &[u32], a: Pure, b: Pure, c: Pure) -> Option<Cmd> {
 }
 
 // Those with a fixed number of operands.
-fn fixed(word: &str, head: Head, xs: &[u32], operands: Vec<Pure>) -> Option<Cmd> {
+fn fixed(word: &str, head: Head, xs: &[u32], operands: Vec<Pure>, place: Place) -> Option<Cmd> {
     let mut es = operands;
     let last = es.pop();
     let middle = es.pop();
     let first = es.pop();
     match (first, middle, last) {
-        (None, None, None) => of_none(word, xs),
-        (None, None, Some(e)) => of_one(word, head, xs, e),
-        (None, Some(a), Some(b)) => of_two(word, head, xs, a, b),
-        (Some(a), Some(b), Some(c)) if es.is_empty() => of_three(word, xs, a, b, c),
+        (None, None, None) => of_none(word, xs, place),
+        (None, None, Some(e)) => of_one(word, head, xs, e, place),
+        (None, Some(a), Some(b)) => of_two(word, head, xs, a, b, place),
+        (Some(a), Some(b), Some(c)) if es.is_empty() => of_three(word, xs, a, b, c, place),
         _ => None,
     }
 }
 
-fn built(word: &str, head: Head, targets: Vec<u32>, operands: Vec<Pure>) -> Option<Cmd> {
-    let place = NOWHERE;
+fn built(
+    word: &str,
+    head: Head,
+    targets: Vec<u32>,
+    operands: Vec<Pure>,
+    place: Place,
+) -> Option<Cmd> {
     match (word, head) {
         ("new", Head::Struct(of)) => match targets.as_slice() {
             [x] => Some(Cmd::New {
@@ -316,17 +311,17 @@ fn built(word: &str, head: Head, targets: Vec<u32>, operands: Vec<Pure>) -> Opti
             es: List::from_vec(operands),
             place,
         }),
-        _ => fixed(word, head, targets.as_slice(), operands),
+        _ => fixed(word, head, targets.as_slice(), operands, place),
     }
 }
 
-/// The command of a line.
-pub(crate) fn command(alloc: Global, names: Names<'_>, line: &str) -> Result<Cmd> {
+/// The command of a line, with the place of its statement.
+pub(crate) fn command(alloc: Global, names: Names<'_>, line: &str, place: Place) -> Result<Cmd> {
     let parts = parts_of(line);
     let head = head_of(names, parts.word, parts.head)?;
     let xs = targets(alloc, names, parts.targets)?;
     let es = expressions(alloc, names, parts.operands)?;
-    match built(parts.word, head, xs, es) {
+    match built(parts.word, head, xs, es, place) {
         Some(command) => Ok(command),
         None => bail!("no command: {line}"),
     }

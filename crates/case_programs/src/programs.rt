@@ -3,7 +3,8 @@
 //! `struct T f KIND, g KIND` declares a struct, `struct T` one without fields. `proc NAME(x KIND, y KIND) KIND, KIND` begins a
 //! procedure with its parameters and the kinds of its results; `recover` in the place of `proc` says that it is recovery, and
 //! `op` that it is an operation. `local x KIND, y KIND` declares more locals of it, and its commands follow. A KIND is `Word`,
-//! `Bool`, `Ref` or `Slice`. A name stands for what is declared above it. `done` is the program's last line.
+//! `Bool`, `Ref` or `Slice`. A name stands for what is declared above it. A command may have the place of its statement behind it,
+//! ` @LINE:COLUMN`.
 
 use crate::blocks::Blocks;
 use crate::names::Names;
@@ -14,7 +15,7 @@ use std::alloc::Global;
 
 /// A program that is being read.
 #[derive(Drop)]
-pub(crate) struct Reading {
+pub struct Reading {
     structs: Vec<Struct>,
     procs: Vec<Proc>,
     recover: Option<u32>,
@@ -93,7 +94,8 @@ fn struct_of(alloc: Global, said: &str) -> Result<Struct> {
 }
 
 impl Reading {
-    pub(crate) fn new(alloc: Global) -> Reading {
+    /// No line is read.
+    pub fn new(alloc: Global) -> Reading {
         Reading {
             structs: Vec::new(alloc),
             procs: Vec::new(alloc),
@@ -139,7 +141,7 @@ impl Reading {
     }
 
     /// One line that isn't the last.
-    pub(crate) fn take(&mut self, alloc: Global, line: &str) -> Result<()> {
+    pub fn take(&mut self, alloc: Global, line: &str) -> Result<()> {
         let (word, rest) = match line.split_once(' ') {
             Some((word, rest)) => (word, rest),
             None => (line, ""),
@@ -161,7 +163,7 @@ impl Reading {
     }
 
     /// The program, where the line behind it is its last.
-    pub(crate) fn finish(self) -> Result<Program> {
+    pub fn finish(self) -> Result<Program> {
         let mut whole = self;
         whole.end_proc()?;
         let Some(recover) = whole.recover else {

@@ -1,9 +1,9 @@
 //! The cases of a table.
 
-use crate::programs::Reading;
 use crate::runs::run_text;
 use crate::tries::tries_text;
 use anyhow::{Context, Result, bail};
+use case_programs::Reading;
 use case_table::Meaning;
 use gv_base::{List, Place, Refusal};
 use gv_lang::{Program, well_shaped};
