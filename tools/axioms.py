@@ -1,6 +1,6 @@
 #!/usr/bin/env python3
 """Makes the tables of the axioms from crates/gv_axioms/axioms.txt: specs/Table.antt, src/generated/table.rt, and the table in
-docs/axioms.md. With `check` it writes nothing, and fails where a file differs from what it would write."""
+docs/axioms.md; that page's examples are the cases of crates/axiom_cases/data/instances.txt. With `check` it writes nothing, and fails where a file differs from what it would write."""
 
 import re
 import sys
@@ -9,6 +9,7 @@ from pathlib import Path
 TOP = Path(__file__).resolve().parent.parent
 CRATE = TOP / "crates" / "gv_axioms"
 DOCS = TOP / "docs" / "axioms.md"
+CASES = TOP / "crates" / "axiom_cases" / "data" / "instances.txt"
 MADE = "Made by tools/axioms.py from axioms.txt: edit that."
 
 # by level, the binary operators, loosest first
@@ -236,16 +237,31 @@ def rust(axioms):
     return "\n".join(out[:-1]) + "\n"
 
 
+def examples():
+    """Of each number the last of its cases in crates/axiom_cases: the parts, and what the instance over them is."""
+    shown = {}
+    for line in CASES.read_text().splitlines():
+        case = re.fullmatch(r"(\d+) [^:]*: \d+ \((.*)\) => (.*?) ?gives (.*)", line)
+        if case:
+            shown[int(case[1])] = case.groups()[1:]
+    return shown
+
+
 def in_docs(axioms):
-    """The page with its table made anew: what stands before the table and behind it is kept."""
-    before, _, rest = DOCS.read_text().partition("| Number |")
+    """The page with its two tables made anew: what stands before, between and behind them is kept."""
+    before, _, rest = DOCS.read_text().partition("| Number | Parts | Premises")
+    between, _, rest = rest.partition("\n\n")[2].partition("| Number | Over")
     behind = rest.partition("\n\n")[2]
     rows = ["| Number | Parts | Premises | Gives |", "|---|---|---|---|"]
     for axiom in axioms:
         parts = ", ".join(f"{letter}: {kind}" for letter, kind in axiom["pairs"])
         cells = [str(axiom["number"]), parts, axiom["before"].replace("; ", "`, `"), axiom["after"]]
         rows.append("| " + " | ".join([cells[0], cells[1], *[f"`{cell}`" if cell else "" for cell in cells[2:]]]).replace("||", "\\|\\|") + " |")
-    return before + "\n".join(rows) + "\n\n" + behind
+    shown = ["| Number | Over | Premises | Gives |", "|---|---|---|---|"]
+    for number, cells in sorted(examples().items()):
+        told = " | ".join(f"`{cell}`" if cell else "" for cell in (cells[0].replace("; ", "`, `"), cells[1].replace("; ", "`, `"), cells[2]))
+        shown.append(f"| {number} | {told} |".replace("||", "\\|\\|"))
+    return before + "\n".join(rows) + "\n\n" + between + "\n".join(shown) + "\n\n" + behind
 
 
 def main():
