@@ -11,7 +11,7 @@ use gv_terms::{Operator, Term, TermStore};
 
 /// Whether a term is among the facts.
 #[tactic(auto, using(crate::proofs::Trees::found_here, crate::proofs::Trees::not_here, crate::proofs::Trees::none_left))]
-pub(crate) fn contains(store: &TermStore, facts: &[Term], term: Term) -> bool
+pub fn contains(store: &TermStore, facts: &[Term], term: Term) -> bool
     requires all { AreIn store.now facts.now }
     requires one { term.id < length store.now }
     ensures { result ≡ spec.contains (trees_at store.now facts.now) (tree_at store.now term.id) }

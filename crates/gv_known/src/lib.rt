@@ -9,7 +9,8 @@ mod plain;
 mod replacing;
 
 pub use comparing::same;
-pub use facts::is_reflexive;
+pub use facts::{contains, is_reflexive};
 pub use formulas::known;
 pub use parts::{Pair, parts_under};
+pub use plain::computes;
 pub use replacing::replaced;

@@ -42,6 +42,7 @@ fn two(terms: &[Term]) -> Option<Pair>
 pub fn parts_under(store: &TermStore, operator: Operator, term: Term) -> Option<Pair>
     requires { term.id < length store.now }
     ensures within { IfSome result (λ p. (p.first.id < length store.now) × (p.second.id < length store.now)) }
+    ensures earlier { IfSome result (λ p. (p.first.id < term.id) × (p.second.id < term.id)) }
     ensures parts { option_map (λ p. (tree_at store.now p.first.id, tree_at store.now p.second.id)) result ≡ spec.parts_under operator (tree_at store.now term.id) }
 {
     if is_apply(operator, store.head_of(term)) {

@@ -78,7 +78,7 @@ fn is_true(value: &Value) -> bool
 }
 
 /// Whether a term has no variable, is over words and truth values alone, and is true.
-pub(crate) fn computes(alloc: Global, store: &TermStore, term: Term) -> Result<bool, NoMemory>
+pub fn computes(alloc: Global, store: &TermStore, term: Term) -> Result<bool, NoMemory>
     requires { term.id < length store.now }
     ensures { IfOk result (λ b. b ≡ spec.computes (tree_at store.now term.id)) }
 {

@@ -5,7 +5,7 @@ ghost use Rattle.gv_terms.specs.Store.{tree_at, trees_at, AreIn, Grows};
 ghost use Rattle.gv_certs.specs.Proving as spec;
 ghost use Rattle.gv_side.specs.Telling.{IsFault, asked_of, axiom_of};
 
-use crate::ask::{ask, ask_known};
+use crate::asking::{ask, ask_known};
 use gv_axioms::{AxiomFault, instance};
 use gv_certs::{Cause, RuleFault};
 use gv_known::same;

@@ -36,11 +36,7 @@ fn apply(
 }
 
 /// The negation of a formula.
-pub(crate) fn negation(
-    alloc: Global,
-    store: &mut TermStore,
-    formula: Term,
-) -> Result<Term, NoMemory>
+pub fn negation(alloc: Global, store: &mut TermStore, formula: Term) -> Result<Term, NoMemory>
     requires within { formula.id < length store.old }
     requires truth { sort_of (tree_at store.old formula.id) ≡ Some sort.Bool }
     ensures within { IfOk result (λ t. t.id < length store.new) }
@@ -50,6 +46,27 @@ pub(crate) fn negation(
     let mut parts: Vec<Term> = Vec::new(alloc);
     parts.push(formula)?;
     apply(alloc, store, Operator::Not, parts)
+}
+
+/// The term of an operator over two terms, where it has a sort.
+pub fn over_two(
+    alloc: Global,
+    store: &mut TermStore,
+    operator: Operator,
+    a: Term,
+    b: Term,
+) -> Result<Term, NoMemory>
+    requires first { a.id < length store.old }
+    requires second { b.id < length store.old }
+    requires sorted { IsSome (sort_of (spec.over_two operator (tree_at store.old a.id) (tree_at store.old b.id))) }
+    ensures within { IfOk result (λ t. t.id < length store.new) }
+    ensures made { IfOk result (λ t. tree_at store.new t.id ≡ spec.over_two operator (tree_at store.old a.id) (tree_at store.old b.id)) }
+    ensures grows { Grows store.old store.new }
+{
+    let mut parts: Vec<Term> = Vec::new(alloc);
+    parts.push(a)?;
+    parts.push(b)?;
+    apply(alloc, store, operator, parts)
 }
 
 /// The equation of two terms of one sort.

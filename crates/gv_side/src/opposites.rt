@@ -8,7 +8,7 @@ ghost use Rattle.gv_terms.specs.declared.tree.TermTree.{TermTree as Tree};
 ghost use Rattle.gv_certs.specs.Proving as spec;
 ghost use Rattle.gv_side.specs.Telling.{IsFault, opposites_of};
 
-use crate::ask::ask_known;
+use crate::asking::ask_known;
 use crate::making::negation;
 use gv_certs::RuleFault;
 use gv_terms::{Term, TermStore};

@@ -6,7 +6,7 @@ ghost use Rattle.gv_terms.specs.Trees.{sort_of};
 ghost use Rattle.gv_certs.specs.Proving as spec;
 ghost use Rattle.gv_side.specs.Telling.{IsFault, asked_of, equals_in, equals_of};
 
-use crate::ask::{ask, ask_known};
+use crate::asking::{ask, ask_known};
 use crate::making::equation;
 use gv_certs::{Cause, RuleFault};
 use gv_known::{is_reflexive, replaced, same};

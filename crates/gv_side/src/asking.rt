@@ -12,7 +12,7 @@ use gv_terms::{Term, TermStore};
 use std::alloc::Global;
 
 /// The premise holds, or its cause.
-pub(crate) fn ask(holds: bool, cause: Cause) -> Result<(), RuleFault>
+pub fn ask(holds: bool, cause: Cause) -> Result<(), RuleFault>
     ensures holds { IfOk result (λ _. AllHold (asks holds cause ∷ [])) }
     ensures cause { IfErr result (IsFault (asks holds cause ∷ [])) }
 {
@@ -24,7 +24,7 @@ pub(crate) fn ask(holds: bool, cause: Cause) -> Result<(), RuleFault>
 }
 
 /// The formula is known, or `NotKnown`.
-pub(crate) fn ask_known(
+pub fn ask_known(
     alloc: Global,
     store: &TermStore,
     facts: &[Term],

@@ -1,0 +1,4 @@
+pub mod Forms
+pub mod Termed
+pub mod Scoped
+pub mod Proofs

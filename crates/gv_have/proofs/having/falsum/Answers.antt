@@ -1,0 +1,4 @@
+use Rattle.gv_have.proofs.having.falsum.Goals as goal
+
+pub unreachable-requires : goal.unreachable-requires
+unreachable-requires c = ?

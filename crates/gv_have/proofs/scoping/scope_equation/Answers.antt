@@ -1,0 +1,4 @@
+use Rattle.gv_have.proofs.scoping.scope_equation.Goals as goal
+
+pub returns-clause-scoped : goal.returns-clause-scoped
+returns-clause-scoped c = ?

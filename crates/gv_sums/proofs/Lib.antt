@@ -1,0 +1,7 @@
+pub mod Results
+pub mod Adding
+pub mod Finding
+pub mod Numbers
+pub mod Narrow
+pub mod Sorted
+pub mod Parts

@@ -1,0 +1,28 @@
+-- Results, and lists of terms that grow.
+use Rattle.std.proofs.Common.{◌≡◌, ℕ, ◌+◌, ◌<◌, ◌≤◌, List, [], ◌∷◌, ◌++◌, map, length, drop, take, get_or, refl, sym, ap, ◌∙◌, subst, arith}
+use Rattle.std.specs.Prelude.{Result, Ok, Err, IfOk, IfErr}
+use Rattle.std.proofs.lemmas.List.{map-append, drop_more, drop_all, take_more, take_all}
+use Rattle.std.specs.List.{All}
+use Rattle.gv_terms.specs.declared.term.Term.{Term}
+use Rattle.gv_terms.specs.declared.tree.TermTree.{TermTree}
+use Rattle.gv_terms.specs.Store.{tree_at, trees_at, AreIn, Grows}
+use Rattle.gv_terms.proofs.Grown.{one_more_in}
+
+pub if_ok : {A E : Type 0} (r : Result A E) (P Q : A → Type 0) → IfOk r P → ((a : A) → P a → Q a) → IfOk r Q
+if_ok (Ok a) P Q h f = f a h
+if_ok (Err e) P Q h f = tt
+
+pub if_err : {A E : Type 0} (r : Result A E) (P Q : E → Type 0) → IfErr r P → ((e : E) → P e → Q e) → IfErr r Q
+if_err (Ok a) P Q h f = tt
+if_err (Err e) P Q h f = f e h
+
+grows_none : (st : List TermTree) → Grows st st
+grows_none st = ([], sym (append_none st))
+  where
+    append_none : (ts : List TermTree) → ts ++ [] ≡ ts
+    append_none [] = refl
+    append_none (t ∷ ts) = ap (λ us. t ∷ us) (append_none ts)
+
+-- one term more in a store
+pub one_more_here : (st : List TermTree) (ps : List Term) (t : Term) → AreIn st ps → t.id < length st → AreIn st (ps ++ t ∷ [])
+one_more_here st ps t within lt = one_more_in st st ps t within (grows_none st) lt
