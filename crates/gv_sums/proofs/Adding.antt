@@ -1,5 +1,5 @@
 -- What a term is the sum of, node by node.
-use Rattle.std.proofs.Common.{◌≡◌, ℕ, ◌+◌, ◌<◌, ◌≤◌, List, [], ◌∷◌, ◌++◌, map, length, Bool, true, false, not, cond, Option, Some, None, refl, sym, ap, ◌∙◌, subst, arith}
+use Rattle.std.proofs.Common.{◌≡◌, ◌<◌, List, [], ◌∷◌, ◌++◌, map, length, Bool, true, false, not, cond, Some, None, refl, sym, ap, ◌∙◌, subst, arith}
 use Rattle.std.proofs.lemmas.List.{append_assoc}
 use Rattle.std.proofs.Math.IntN.{ℤ, pos, neg_ℤ}
 use Rattle.std.proofs.lemmas.Int.{ints}
@@ -10,12 +10,11 @@ use Rattle.gv_terms.specs.declared.tree.Head.{Head}
 use Rattle.gv_terms.specs.declared.tree.Head.TheVariants as head
 use Rattle.gv_terms.specs.declared.term.Term.{Term}
 use Rattle.gv_terms.specs.declared.tree.TermTree.{TermTree}
-use Rattle.gv_terms.specs.Store.{tree_at, trees_at, AreIn}
+use Rattle.gv_terms.specs.Store.{tree_at, AreIn}
 use Rattle.gv_terms.specs.Trees.{root_of, branches_of}
 use Rattle.gv_certs.specs.Trees.{contains, parts_under, over_two, operator_eq, is_apply, two}
 use Rattle.gv_certs.specs.Sums.{Summands, taken_away, of_both, summands}
-use Rattle.gv_certs.proofs.Folding.{root_apply, branches_apply, rooted_again}
-use Rattle.gv_certs.proofs.Equality.{operator_eq_decides}
+use Rattle.gv_certs.proofs.Folding.{root_apply, branches_apply}
 use Rattle.gv_certs.proofs.Known.{is_over}
 use Rattle.gv_known.proofs.Nodes.{of_node}
 use Rattle.gv_sums.specs.declared.summand.Summand.{Summand}

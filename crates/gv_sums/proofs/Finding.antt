@@ -1,19 +1,18 @@
 -- Unknowns are found one after another, in the order of their first use.
-use Rattle.std.proofs.Common.{◌≡◌, ℕ, zero, suc, ◌+◌, ◌<◌, ◌≤◌, ◌^◌, List, [], ◌∷◌, ◌++◌, map, length, drop, take, get_or, Bool, true, false, ◌||◌, cond, Option, Some, None, refl, sym, ap, ◌∙◌, subst, arith}
+use Rattle.std.proofs.Common.{◌≡◌, ℕ, zero, suc, ◌+◌, ◌<◌, ◌≤◌, List, [], ◌∷◌, ◌++◌, length, drop, take, get_or, Bool, true, false, cond, Option, Some, None, refl, sym, ap, ◌∙◌, subst, arith}
 use Rattle.std.proofs.lemmas.List.{append_assoc}
-use Rattle.std.proofs.lemmas.List.{map-append, drop_more, drop_all, take_more, take_all, length-map}
+use Rattle.std.proofs.lemmas.List.{drop_more, drop_all, take_more, take_all}
 use Rattle.std.specs.List.{All}
 use Rattle.std.specs.Option.{is_some}
 use Rattle.gv_terms.specs.declared.term.Term.{Term}
 use Rattle.gv_terms.specs.declared.tree.TermTree.{TermTree}
 use Rattle.gv_terms.specs.Store.{tree_at, trees_at, AreIn}
 use Rattle.gv_certs.specs.Trees.{contains, tree_eq}
-use Rattle.gv_certs.specs.Sums.{Summands, summands, with_unknown, with_unknowns, place_in, number_in, Comparison}
-use Rattle.gv_certs.specs.Proving.{unknowns_in, unknowns, sides as both_sides}
+use Rattle.gv_certs.specs.Sums.{Summands, summands, with_unknown, with_unknowns, place_in, number_in}
+use Rattle.gv_certs.specs.Proving.{unknowns_in, sides as both_sides}
 use Rattle.gv_sums.specs.declared.summand.Summand.{Summand}
 use Rattle.gv_sums.specs.declared.comparison.Compared.{Compared}
-use Rattle.gv_sums.specs.Reading.{summand_at, summands_at, terms_in, sides_in, comparison_at, comparisons_at, IsWithin, IsShort, AreShort}
-use Rattle.gv_sums.proofs.Results.{one_more_here}
+use Rattle.gv_sums.specs.Reading.{summands_at, terms_in, sides_in, comparisons_at, IsWithin, IsShort, AreShort}
 
 abbrev pub none : Term
 none = record { id = 0 }

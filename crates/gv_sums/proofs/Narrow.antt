@@ -1,30 +1,26 @@
 -- Sums of few summands stay within 128 bits.
-use Rattle.std.proofs.Common.{◌≡◌, ◌⊎◌, inl, inr, ℕ, zero, suc, ◌+◌, ◌*◌, ◌<◌, ◌≤◌, ◌^◌, List, [], ◌∷◌, ◌++◌, map, length, take, get_or, Bool, true, false, ◌&&◌, cond, Option, Some, None, refl, sym, ap, ◌∙◌, subst, arith, rules}
+use Rattle.std.proofs.Common.{◌≡◌, ◌⊎◌, inl, inr, ℕ, zero, suc, ◌+◌, ◌*◌, ◌<◌, ◌≤◌, ◌^◌, List, [], ◌∷◌, ◌++◌, map, length, take, Bool, true, false, ◌&&◌, cond, Option, Some, None, refl, sym, ap, ◌∙◌, subst, arith}
 use Rattle.std.specs.Prelude.{nat_eq, nat_lt, int_le, int_lt, ◌≤ℤ◌, ◌<ℤ◌}
 use Rattle.std.specs.List.{All, list_all}
-use Rattle.std.proofs.Math.IntN.{ℤ, pos, negsuc, neg_ℤ, ◌+ℤ◌, ◌-ℤ◌, ◌*ℤ◌}
+use Rattle.std.proofs.Math.IntN.{ℤ, pos, neg_ℤ, ◌-ℤ◌, ◌*ℤ◌}
 use Rattle.std.proofs.lemmas.Int.{ints}
 use Rattle.std.proofs.lemmas.Bool.{and_parts}
-use Rattle.std.proofs.lemmas.List.{map-append, length-map}
 use Rattle.gv_words.specs.Words.{words}
 use Rattle.gv_terms.specs.declared.operator.Operator.TheVariants as op
 use Rattle.gv_terms.specs.declared.tree.Head.{Head}
 use Rattle.gv_terms.specs.declared.tree.Head.TheVariants as head
-use Rattle.gv_terms.specs.declared.term.Term.{Term}
 use Rattle.gv_terms.specs.declared.tree.TermTree.{TermTree}
 use Rattle.gv_terms.specs.declared.tree.TermTree.TheVariants as tree
 use Rattle.gv_terms.specs.Ranges.{numbers_are_words, is_word_if_number}
-use Rattle.gv_terms.specs.Store.{tree_at, trees_at, AreIn}
+use Rattle.gv_terms.specs.Store.{tree_at, AreIn}
 use Rattle.gv_terms.specs.Trees.{rooted, root_of, branches_of}
 use Rattle.gv_terms.proofs.Numbers.{numbers_apply}
-use Rattle.gv_axioms.proofs.Values.{less}
-use Rattle.gv_linear.specs.declared.row.Row.{Row}
-use Rattle.gv_certs.specs.Sums.{Summands, summands, taken_away, number_at, number_in, place_in, to_constant, to_coefficient, constant_of, coefficient_of, items_from, items_of, Comparison, row_summands, one_if, row_constant, row_of, is_narrow, are_narrow, is_narrow_row, is_narrow_sum}
+use Rattle.gv_certs.specs.Sums.{Summands, summands, taken_away, number_at, number_in, place_in, to_constant, to_coefficient, constant_of, coefficient_of, items_from, items_of, Comparison, row_summands, one_if, row_constant, row_of, is_narrow, is_narrow_row, is_narrow_sum}
 use Rattle.gv_certs.specs.Proving.{sides, unknowns, matrix, are_narrow_sums}
 use Rattle.gv_certs.proofs.Folding.{rooted_again}
 use Rattle.gv_sums.specs.declared.summand.Summand.{Summand}
 use Rattle.gv_sums.specs.declared.summand.Numbered.{Numbered}
-use Rattle.gv_sums.specs.Reading.{sign_of, summand_at, summands_at, terms_in, numbered_at, coefficient_in, constant_in, AreUnits, IsShort, AreShort, AreWords}
+use Rattle.gv_sums.specs.Reading.{sign_of, summands_at, terms_in, numbered_at, coefficient_in, constant_in, AreUnits, IsShort, AreShort, AreWords}
 use Rattle.gv_sums.proofs.Finding.{none}
 
 -- ---- literals are words

@@ -1,16 +1,14 @@
 -- What numbered summands come to is what the summands do.
-use Rattle.std.proofs.Common.{◌≡◌, ℕ, zero, suc, ◌+◌, ◌<◌, ◌≤◌, List, [], ◌∷◌, ◌++◌, map, length, take, get_or, Bool, true, false, Option, Some, None, refl, sym, ap, ◌∙◌, subst, arith}
-use Rattle.std.proofs.Math.IntN.{ℤ, pos, ◌+ℤ◌, ◌-ℤ◌}
+use Rattle.std.proofs.Common.{◌≡◌, ℕ, zero, suc, ◌+◌, ◌<◌, List, [], ◌∷◌, ◌++◌, map, length, take, get_or, Bool, false, None, refl, sym, ap, ◌∙◌, arith}
+use Rattle.std.proofs.Math.IntN.{ℤ, ◌+ℤ◌, ◌-ℤ◌}
 use Rattle.std.proofs.lemmas.Int.{ints}
-use Rattle.std.proofs.lemmas.List.{map-append, take_more, take_all}
+use Rattle.std.proofs.lemmas.List.{take_more}
 use Rattle.gv_terms.specs.declared.tree.TermTree.{TermTree}
-use Rattle.gv_terms.specs.Store.{tree_at}
-use Rattle.gv_certs.specs.Sums.{Summands, to_coefficient, to_constant, coefficient_of, constant_of, items_from, items_of, Comparison, row_summands, one_if, row_constant, row_of}
+use Rattle.gv_certs.specs.Sums.{to_coefficient, to_constant, coefficient_of, constant_of, items_from, items_of, Comparison, row_summands, one_if, row_constant, row_of}
 use Rattle.gv_linear.specs.declared.row.Row.{Row}
 use Rattle.gv_sums.specs.declared.summand.Summand.{Summand}
 use Rattle.gv_sums.specs.declared.summand.Numbered.{Numbered}
-use Rattle.gv_sums.specs.Reading.{sign_of, summand_at, summands_at, numbered_at, coefficient_in, constant_in, items_in}
-use Rattle.gv_sums.proofs.Finding.{nothing}
+use Rattle.gv_sums.specs.Reading.{sign_of, summands_at, numbered_at, coefficient_in, constant_in, items_in}
 
 abbrev pub no_number : Numbered
 no_number = record { negative = false; number = None; place = 0 }

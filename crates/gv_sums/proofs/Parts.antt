@@ -1,10 +1,9 @@
 -- Premises of a linear certificate, one after another.
-use Rattle.std.proofs.Common.{◌≡◌, ◌⊎◌, inl, inr, ℕ, zero, suc, ◌+◌, ◌<◌, ◌≤◌, List, [], ◌∷◌, ◌++◌, map, length, drop, take, get_or, Bool, true, false, ◌||◌, Option, Some, None, refl, sym, ap, ◌∙◌, subst, arith}
+use Rattle.std.proofs.Common.{◌≡◌, inl, inr, ℕ, zero, suc, ◌+◌, ◌<◌, List, [], ◌∷◌, ◌++◌, map, length, drop, take, get_or, Bool, true, false, ◌||◌, Option, Some, None, refl, sym, ap, ◌∙◌, subst, arith}
 use Rattle.std.proofs.lemmas.List.{append_assoc}
 use Rattle.std.specs.Prelude.{Result, Ok, Err, IfOk, IfErr}
-use Rattle.std.specs.Option.{is_some}
 use Rattle.std.proofs.Math.IntN.{ℤ, pos}
-use Rattle.std.proofs.lemmas.List.{drop_more, drop_all, take_more, take_all, map-append}
+use Rattle.std.proofs.lemmas.List.{drop_more, take_more, map-append}
 use Rattle.std.proofs.lemmas.List.Elements.{All-nil, All-cons, All-append}
 use Rattle.std.specs.List.{All}
 use Rattle.gv_terms.specs.declared.term.Term.{Term}
@@ -12,7 +11,6 @@ use Rattle.gv_terms.specs.declared.tree.TermTree.{TermTree}
 use Rattle.gv_terms.specs.Store.{tree_at, trees_at, AreIn, Grows}
 use Rattle.gv_linear.specs.declared.answer.Linear.{Linear}
 use Rattle.gv_linear.specs.declared.answer.Linear.TheVariants.{Yes}
-use Rattle.gv_certs.specs.declared.cause.Cause.{Cause}
 use Rattle.gv_certs.specs.declared.cause.Cause.TheVariants as cause
 use Rattle.gv_certs.specs.declared.fault.RuleFault.{RuleFault}
 use Rattle.gv_certs.specs.declared.fault.RuleFault.TheVariants as fault
@@ -20,7 +18,7 @@ use Rattle.gv_terms.specs.declared.operator.Operator.TheVariants as op
 use Rattle.gv_certs.specs.Trees.{over_two, parts_under, and_pass}
 use Rattle.gv_certs.specs.Known.{is_known}
 use Rattle.gv_certs.specs.Sums.{is_sum, Comparison, comparison_of, order_of, denied, row_of}
-use Rattle.gv_certs.specs.Proving.{Premise, asks, AllHold, FirstFails, is_known_of, row_premises, with_comparison, comparisons, all_rows, matrix, unknowns, are_narrow_sums, order_premises, sum_premises, factors, Sum, Answers, IsCauseOf, linear, Proves, Fails}
+use Rattle.gv_certs.specs.Proving.{Premise, AllHold, FirstFails, row_premises, with_comparison, comparisons, all_rows, matrix, unknowns, are_narrow_sums, order_premises, sum_premises, factors, Sum, Answers, linear, Proves}
 use Rattle.gv_linear.specs.declared.row.Row.{Row}
 use Rattle.gv_linear.specs.Row.{IsInOrder}
 use Rattle.gv_linear.specs.Answer.{IsAnswer}
@@ -31,7 +29,7 @@ use Rattle.gv_known.proofs.Nodes.{tree_kept}
 use Rattle.gv_sums.specs.declared.factored.FactoredTerm.{FactoredTerm}
 use Rattle.gv_sums.specs.declared.comparison.Compared.{Compared}
 use Rattle.gv_sums.specs.Reading.{comparison_at, comparisons_at, IsWithin, row_at, formulas_in, sum_at}
-use Rattle.gv_sums.specs.Telling.{is_sum_of, row_asks, later_premises, IsShown, IsLaterCause, IsLaterFault, IsFaultOf, IsFailure}
+use Rattle.gv_sums.specs.Telling.{is_sum_of, row_asks, later_premises, IsShown, IsLaterFault, IsFaultOf, IsFailure}
 
 abbrev pub none : Term
 none = record { id = 0 }

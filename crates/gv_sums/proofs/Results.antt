@@ -1,11 +1,9 @@
 -- Results, and lists of terms that grow.
-use Rattle.std.proofs.Common.{◌≡◌, ℕ, ◌+◌, ◌<◌, ◌≤◌, List, [], ◌∷◌, ◌++◌, map, length, drop, take, get_or, refl, sym, ap, ◌∙◌, subst, arith}
+use Rattle.std.proofs.Common.{◌≡◌, ◌<◌, List, [], ◌∷◌, ◌++◌, length, refl, sym, ap}
 use Rattle.std.specs.Prelude.{Result, Ok, Err, IfOk, IfErr}
-use Rattle.std.proofs.lemmas.List.{map-append, drop_more, drop_all, take_more, take_all}
-use Rattle.std.specs.List.{All}
 use Rattle.gv_terms.specs.declared.term.Term.{Term}
 use Rattle.gv_terms.specs.declared.tree.TermTree.{TermTree}
-use Rattle.gv_terms.specs.Store.{tree_at, trees_at, AreIn, Grows}
+use Rattle.gv_terms.specs.Store.{AreIn, Grows}
 use Rattle.gv_terms.proofs.Grown.{one_more_in}
 
 pub if_ok : {A E : Type 0} (r : Result A E) (P Q : A → Type 0) → IfOk r P → ((a : A) → P a → Q a) → IfOk r Q

@@ -1,5 +1,5 @@
 -- What the check of a linear certificate asks, part by part, and what it tells.
-use Rattle.std.specs.Prelude.{◌≡◌, ◌⊎◌, ℕ, Bool, List, [], ◌∷◌, ◌++◌, map, is_some, Option, ℤ}
+use Rattle.std.specs.Prelude.{◌⊎◌, Bool, List, [], ◌∷◌, ◌++◌, is_some}
 use Rattle.gv_terms.specs.declared.tree.TermTree.{TermTree}
 use Rattle.gv_linear.specs.declared.answer.Linear.{Linear}
 use Rattle.gv_linear.specs.declared.answer.Linear.TheVariants.{Yes}
@@ -11,7 +11,7 @@ use Rattle.gv_terms.specs.declared.operator.Operator.TheVariants as op
 use Rattle.gv_certs.specs.Trees.{over_two, parts_under, and_pass}
 use Rattle.gv_certs.specs.Known.{is_known}
 use Rattle.gv_certs.specs.Sums.{is_sum, comparison_of, order_of}
-use Rattle.gv_certs.specs.Proving.{Premise, asks, AllHold, FirstFails, is_known_of, row_premises, order_premises, Sum, Answers, IsCauseOf, Certificate, Proves, Fails}
+use Rattle.gv_certs.specs.Proving.{Premise, asks, AllHold, FirstFails, is_known_of, row_premises, order_premises, Sum, Answers, IsCauseOf, Certificate, Fails}
 
 abbrev pub is_sum_of : List TermTree → TermTree → Premise
 is_sum_of facts t = asks (is_sum facts t) cause.NotAPlus

@@ -1,4 +1,4 @@
-use Rattle.std.proofs.Common.{◌≡◌, ◌∙◌, ap, sym, subst, refl, map, length}
+use Rattle.std.proofs.Common.{◌∙◌, ap, sym, refl, map, length}
 use Rattle.gv_terms.specs.Store.{trees_at}
 use Rattle.gv_certs.specs.Sums.{row_of}
 use Rattle.gv_certs.specs.Proving.{unknowns}

@@ -1,4 +1,4 @@
-use Rattle.std.proofs.Common.{◌≡◌, ◌∷◌, map, length, take, drop}
+use Rattle.std.proofs.Common.{◌≡◌, map, length, take, drop}
 use Rattle.std.specs.List.{All}
 use Rattle.gv_terms.specs.Store.{trees_at}
 use Rattle.gv_certs.specs.declared.fault.RuleFault.{RuleFault}

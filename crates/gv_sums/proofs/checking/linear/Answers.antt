@@ -1,4 +1,3 @@
-use Rattle.std.proofs.Common.{◌≡◌}
 use Rattle.gv_terms.specs.Store.{tree_at, trees_at}
 use Rattle.gv_certs.specs.Proving as proving
 use Rattle.gv_known.proofs.Nodes.{tree_kept}

@@ -1,7 +1,5 @@
-use Rattle.std.proofs.Common.{◌≡◌, ◌∙◌, ap, sym, subst, refl, Some}
+use Rattle.std.proofs.Common.{◌∙◌, ap, sym}
 use Rattle.gv_terms.specs.Store.{tree_at, trees_at}
-use Rattle.gv_certs.specs.Sums.{denied}
-use Rattle.gv_certs.specs.Proving.{IsCauseOf}
 use Rattle.gv_side.proofs.Lists.{handed_on}
 use Rattle.gv_sums.specs.Reading.{comparison_at, sum_at}
 use Rattle.gv_sums.specs.Telling.{IsLaterFault}

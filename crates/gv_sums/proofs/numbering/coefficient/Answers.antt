@@ -1,6 +1,4 @@
-use Rattle.std.proofs.Common.{◌+◌, take, arith, rules}
-use Rattle.std.specs.Prelude.{FitsSigned}
-use Rattle.std.specs.Int.{w128}
+use Rattle.std.proofs.Common.{◌+◌, arith}
 use Rattle.std.proofs.lemmas.Int.{ints}
 use Rattle.gv_sums.proofs.Numbers.{coefficient_more}
 use Rattle.gv_sums.proofs.Narrow.{coefficient_taken}

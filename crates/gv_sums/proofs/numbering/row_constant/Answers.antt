@@ -1,8 +1,6 @@
-use Rattle.std.proofs.Common.{◌≡◌, ap, arith, rules}
+use Rattle.std.proofs.Common.{◌≡◌, ap, arith}
 use Rattle.std.proofs.Math.IntN.{pos}
 use Rattle.gv_certs.specs.Sums.{one_if}
-use Rattle.std.specs.Prelude.{FitsSigned}
-use Rattle.std.specs.Int.{w128}
 use Rattle.std.proofs.lemmas.Int.{ints}
 use Rattle.gv_sums.proofs.Narrow.{constant_small}
 use Rattle.gv_sums.proofs.numbering.row_constant.Goals as goal

@@ -1,4 +1,4 @@
-use Rattle.std.proofs.Common.{◌≡◌, ◌∙◌, refl, sym, ap, map, length, rules}
+use Rattle.std.proofs.Common.{◌∙◌, refl, ap, map, length, rules}
 use Rattle.std.specs.Prelude.{FitsSigned}
 use Rattle.std.specs.Int.{w128}
 use Rattle.std.proofs.Math.IntN.{◌-ℤ◌}

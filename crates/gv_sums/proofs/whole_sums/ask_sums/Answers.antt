@@ -1,12 +1,10 @@
-use Rattle.std.proofs.Common.{◌≡◌, ◌∷◌, [], drop, get_or, ◌+◌, sym, subst, ap, ◌∙◌}
+use Rattle.std.proofs.Common.{◌∷◌, [], drop, get_or, ◌+◌, sym, subst, ◌∙◌}
 use Rattle.gv_terms.specs.Store.{tree_at, trees_at}
 use Rattle.gv_terms.proofs.RawParts.{grows_on}
 use Rattle.gv_certs.specs.declared.cause.Cause.TheVariants as cause
-use Rattle.gv_certs.specs.Sums.{is_sum}
 use Rattle.gv_certs.specs.Proving.{AllHold, asks}
 use Rattle.gv_side.specs.Telling.{IsFault}
-use Rattle.gv_side.proofs.Lists.{trees_same, handed_on, fault_first, fault_later, all_more}
-use Rattle.gv_known.proofs.Nodes.{tree_kept}
+use Rattle.gv_side.proofs.Lists.{handed_on, fault_first, fault_later, all_more}
 use Rattle.gv_sums.specs.Telling.{is_sum_of}
 use Rattle.gv_sums.proofs.Parts.{none, sums_asked, from_here, sum_kept}
 use Rattle.gv_sums.proofs.whole_sums.ask_sums.Goals as goal

@@ -1,10 +1,9 @@
-use Rattle.std.proofs.Common.{◌≡◌, ◌||◌, false, sym, ap, ◌∙◌}
+use Rattle.std.proofs.Common.{◌≡◌, sym, ap, ◌∙◌}
 use Rattle.gv_terms.specs.Store.{tree_at, trees_at}
 use Rattle.gv_terms.specs.declared.operator.Operator.TheVariants as op
 use Rattle.gv_certs.specs.Trees.{over_two, parts_under, and_pass}
 use Rattle.gv_certs.specs.Known.{is_known}
 use Rattle.gv_certs.specs.Sums.{is_sum}
-use Rattle.gv_certs.specs.declared.fault.RuleFault.{RuleFault}
 use Rattle.gv_known.proofs.Nodes.{tree_kept}
 use Rattle.gv_side.proofs.Lists.{trees_same}
 use Rattle.gv_sums.proofs.Results.{if_ok}
