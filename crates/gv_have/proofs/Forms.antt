@@ -1,5 +1,7 @@
 -- What each form of a certificate as it was read stands for.
-use Rattle.std.proofs.Common.{◌≡◌, ℕ, List, [], ◌∷◌, map, Box, Option, Some, rules}
+use Rattle.std.proofs.Common.{◌≡◌, ℕ, ◌+◌, ◌<◌, ◌≤◌, List, [], ◌∷◌, map, length, drop, get_or, Box, Option, Some, option_map, sym, ap, ◌∙◌, rules}
+use Rattle.std.proofs.lemmas.List.{drop_more, drop_all}
+use Rattle.gv_axioms.specs.Filling.{with_some}
 use Rattle.std.specs.declared.alloc.Global.{Global}
 use Rattle.gv_terms.specs.declared.var.Var.{Var}
 use Rattle.gv_terms.specs.declared.tree.RawTerm.{RawTerm}
@@ -8,8 +10,11 @@ use Rattle.gv_certs.specs.declared.cert.Factored.{Factored}
 use Rattle.gv_certs.specs.declared.cert.Have.{Have}
 use Rattle.gv_certs.specs.declared.cert.Cert.{Cert, the_lemmas}
 use Rattle.gv_certs.specs.declared.cert.Cert.TheVariants as cert
-use Rattle.gv_certs.specs.Proving.{Certificate, by, known, compute}
+use Rattle.gv_certs.specs.Proving.{Certificate, by, known, compute, then}
 use Rattle.gv_have.specs.Scoping.{formula_of, axiom_in, equals_in, equals, opposites, sum_in, cases_in, step_in, steps_of, certificate_of}
+
+abbrev pub stepped : Option TermTree → Option Certificate → Option Certificate → Option Certificate
+stepped x k r = with_some (step_in x k) (λ p. option_map (then p.0 p.1) r)
 
 module _ (vars : List Var) where
   -- a step with its certificate
@@ -55,5 +60,14 @@ module _ (vars : List Var) where
   pub steps_is : (steps : List Have) (last : Box Cert Global) → certificate_of vars (cert.Steps steps last) ≡ rest_of steps last.value
   unfolding certificate_of
   steps_is steps last = search (rules, the_lemmas)
+
+module _ (vars : List Var) (steps : List Have) (last : Cert) (i : ℕ) where
+  -- a step, and what comes behind it
+  pub step_here : (h : Have) → i < length steps → h ≡ get_or steps i h
+      → rest_of vars (drop i steps) last ≡ stepped (formula_of vars h.formula) (certificate_of vars h.cert) (rest_of vars (drop (i + 1) steps) last)
+  step_here h lt is = ap (λ hs. rest_of vars hs last) (drop_more steps i h lt ∙ ap (λ q. q ∷ drop (i + 1) steps) (sym is))
+
+  pub no_more : length steps ≤ i → rest_of vars (drop i steps) last ≡ certificate_of vars last
+  no_more le = ap (λ hs. rest_of vars hs last) (drop_all i steps le)
 
 pub ruleset forms = (known_is, compute_is, axiom_is, equals_in_is, equals_is, opposites_is, sum_is, cases_is)

@@ -1,6 +1,6 @@
 -- Certificates that stand in one another, and what is known meanwhile.
 use Rattle.std.proofs.Common.{◌≡◌, ◌⊎◌, inl, inr, ℕ, zero, suc, ◌+◌, ◌<◌, ◌≤◌, List, [], ◌∷◌, ◌++◌, map, length, take, drop, get_or, Option, Some, None, option_map, refl, sym, ap, ◌∙◌, subst, arith}
-use Rattle.std.proofs.lemmas.List.{map-append, drop_more, drop_all, take_all}
+use Rattle.std.proofs.lemmas.List.{map-append, length-append, drop_more, drop_all, take_all}
 use Rattle.gv_terms.specs.declared.term.Term.{Term}
 use Rattle.gv_terms.specs.declared.var.Var.{Var}
 use Rattle.gv_terms.specs.declared.tree.TermTree.{TermTree}
@@ -11,10 +11,17 @@ use Rattle.gv_certs.specs.declared.cause.Cause.{Cause}
 use Rattle.gv_certs.specs.declared.fault.RuleFault.{RuleFault}
 use Rattle.gv_certs.specs.declared.fault.RuleFault.TheVariants as fault
 use Rattle.gv_certs.specs.Trees.{negation}
-use Rattle.gv_certs.specs.Proving.{Certificate, cases, then, with_fact, Proves, Fails}
+use Rattle.gv_terms.specs.declared.sort.Sort.TheVariants as sort
+use Rattle.gv_terms.specs.declared.operator.Operator.TheVariants as op
+use Rattle.gv_terms.specs.declared.tree.Head.TheVariants as head
+use Rattle.gv_terms.specs.Trees.{sort_of_node}
+use Rattle.gv_terms.proofs.NodeSorts.{sort_apply}
+use Rattle.gv_certs.specs.Proving.{Leaf, premises, Certificate, by, cases, then, with_fact, Proves, Fails}
+use Rattle.gv_side.specs.Telling.{IsFault}
 use Rattle.gv_side.proofs.Lists.{trees_same}
 use Rattle.gv_sums.specs.Telling.{IsFailure}
 use Rattle.gv_have.specs.Scoping.{cases_in, step_in, steps_of}
+use Rattle.gv_have.proofs.Forms.{stepped}
 use Rattle.gv_have.specs.Telling.{IsUnscoped, IsProof, IsNoProof}
 
 -- ---- what stands for nothing
@@ -101,9 +108,6 @@ module _ (F : List TermTree) (f : TermTree) where
 
   -- ---- steps
 
-  abbrev pub stepped : Option TermTree → Option Certificate → Option Certificate → Option Certificate
-  stepped x k r = with_some (step_in x k) (λ p. option_map (then p.0 p.1) r)
-
   pub step_proves : (x : Option TermTree) (k r : Option Certificate) (t : TermTree) → x ≡ Some t → IsProof k F t → IsProof r (with_fact F t) f → IsProof (stepped x k r) F f
   step_proves None k r t e p q c is = absurd cc
   step_proves (Some u) None r t e p q c is = absurd cc
@@ -174,3 +178,60 @@ kept_through first now last kept more =
 pub with_one : (old new : List TermTree) (facts more : List Term) (t : Term) → AreIn old facts → Grows old new → more ≡ facts ++ t ∷ [] → trees_at new more ≡ with_fact (trees_at old facts) (tree_at new t.id)
 with_one old new facts more t within grows e =
     ap (trees_at new) e ∙ map-append (λ q. tree_at new q.id) facts (t ∷ []) ∙ ap (λ ts. ts ++ tree_at new t.id ∷ []) (trees_same old new facts within grows)
+
+-- ---- forms that need no other certificate
+
+pub of_fault : (F : List TermTree) (f : TermTree) (leaf : Leaf) (e : RuleFault) → IsFault (premises F f leaf) e → IsFailure F f (by leaf) e
+of_fault F f leaf fault.NoMemory h = tt
+of_fault F f leaf (fault.Cause k) h = h
+
+pub some_map : {A : Type 0} (x : Option A) (a : A) (make : A → Certificate) → x ≡ Some a → option_map make x ≡ Some (make a)
+some_map x a make e = ap (option_map make) e
+
+pub some_both : {A B : Type 0} (x : Option A) (y : Option B) (a : A) (b : B) (make : A → B → Certificate) → x ≡ Some a → y ≡ Some b → with_some x (λ a. option_map (make a) y) ≡ Some (make a b)
+some_both x y a b make e f = ap (λ o. with_some o (λ a. option_map (make a) y)) e ∙ ap (option_map (make a)) f
+
+module _ (o : Option Certificate) (c : Certificate) (F G : List TermTree) (f g : TermTree) (there : o ≡ Some c) (facts : G ≡ F) (goal : g ≡ f) where
+  pub is_proof : Proves G g c → IsProof o F f
+  is_proof h = subst (λ p. IsProof p F f) (sym there) (one c F f (subst (λ E. Proves E f c) facts (subst (λ t. Proves G t c) goal h)))
+
+  pub is_no_proof : (e : RuleFault) → IsFailure G g c e → IsNoProof o F f e
+  is_no_proof e h = subst (λ p. IsNoProof p F f e) (sym there) (no_one c F f e (subst (λ E. IsFailure E f c e) facts (subst (λ t. IsFailure G t c e) goal h)))
+
+-- ---- the formula that is never true
+
+pub no_false : (ts : List TermTree) → ts ≡ [] → sort_of_node (head.Apply op.False) ts ≡ None → ⊥
+no_false ts e h =
+    let clash : None ≡ Some sort.Bool = sym h ∙ ap (λ us. sort_of_node (head.Apply op.False) us) e ∙ sort_apply op.False [] in
+    absurd cc
+
+-- ---- the same over equal facts and goals
+
+pub moved : (o : Option Certificate) (F G : List TermTree) (f g : TermTree) → G ≡ F → g ≡ f → IsProof o G g → IsProof o F f
+moved o F G f g facts goal h c is = subst (λ E. Proves E f c) facts (subst (λ t. Proves G t c) goal (h c is))
+
+pub moved_fault : (o : Option Certificate) (F G : List TermTree) (f g : TermTree) (e : RuleFault) → G ≡ F → g ≡ f → IsNoProof o G g e → IsNoProof o F f e
+moved_fault o F G f g e facts goal h c is = subst (λ E. IsFailure E f c e) facts (subst (λ t. IsFailure G t c e) goal (h c is))
+
+pub same_proof : (o p : Option Certificate) (F : List TermTree) (f : TermTree) → o ≡ p → IsProof p F f → IsProof o F f
+same_proof o p F f e h = subst (λ q. IsProof q F f) (sym e) h
+
+pub same_fault : (o p : Option Certificate) (F : List TermTree) (f : TermTree) (k : RuleFault) → o ≡ p → IsNoProof p F f k → IsNoProof o F f k
+same_fault o p F f k e h = subst (λ q. IsNoProof q F f k) (sym e) h
+
+-- facts are as they were before one was added
+pub restored : (first now last cut : List Term) (t : Term) (n : ℕ) → now ≡ first ++ t ∷ [] → take (length now) last ≡ now → n ≡ length first → cut ≡ take n last → cut ≡ first
+restored first now last cut t n e kept is cutting =
+    cutting ∙ ap (λ k. take k last) is ∙ kept_through first now last (kept_behind first first now t (take_all (length first) first (omega arith)) e) kept
+
+pub cut_back : (first last cut : List Term) (n : ℕ) → take (length first) last ≡ first → n ≡ length first → cut ≡ take n last → cut ≡ first
+cut_back first last cut n kept is cutting = cutting ∙ ap (λ k. take k last) is ∙ kept
+
+pub whole_kept : (first : List Term) → take (length first) first ≡ first
+whole_kept first = take_all (length first) first (omega arith)
+
+pub grows_within : (old new : List TermTree) (t : Term) → t.id < length old → Grows old new → t.id < length new
+grows_within old new t lt grows =
+    let longer : length new ≡ length (old ++ grows.0) = ap (λ ts. length ts) grows.1 in
+    let both = length-append old grows.0 in
+    omega (arith, lt, longer, both)

@@ -169,3 +169,9 @@ no_row vars (q ∷ rs) (suc i) r lt is e = by_first (formula_of vars q.formula) 
 
 pub formulas_more : (made more : List FactoredTerm) (r : FactoredTerm) → more ≡ made ++ r ∷ [] → formulas_in more ≡ formulas_in made ++ r.formula ∷ []
 formulas_more made more r e = ap formulas_in e ∙ map-append (λ q. q.formula) made (r ∷ [])
+
+-- sides keep their trees
+pub sides_kept : (vars : List Var) (a b : RawTerm) (old new : List TermTree) (x y : Term) → sides_of vars a b ≡ Some (tree_at old x.id, tree_at old y.id) → x.id < length old → y.id < length old → Grows old new
+    → sides_of vars a b ≡ Some (tree_at new x.id, tree_at new y.id)
+sides_kept vars a b old new x y e lx ly grows =
+    e ∙ ap (λ t. Some (t, tree_at old y.id)) (sym (tree_kept old new x lx grows)) ∙ ap (λ t. Some (tree_at new x.id, t)) (sym (tree_kept old new y ly grows))

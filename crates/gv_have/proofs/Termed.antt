@@ -1,7 +1,8 @@
 -- Certificates whose terms are all there.
 use Rattle.std.proofs.Common.{◌≡◌, List, [], ◌∷◌, ◌++◌, map, true, Option, Some, None, option_map, refl, sym, ap, ◌∙◌, subst}
 use Rattle.std.specs.Prelude.{IsSome}
-use Rattle.std.proofs.lemmas.List.Elements.{All-append}
+use Rattle.std.proofs.Math.IntN.{ℤ}
+use Rattle.std.proofs.lemmas.List.Elements.{All-nil, All-append}
 use Rattle.gv_terms.specs.declared.tree.TermTree.{TermTree}
 use Rattle.gv_terms.specs.Ranges.{numbers_are_words}
 use Rattle.gv_terms.specs.Store.{tree_at, trees_at}
@@ -11,10 +12,11 @@ use Rattle.gv_axioms.specs.Truth.{AreTerms}
 use Rattle.gv_certs.specs.declared.fault.RuleFault.{RuleFault}
 use Rattle.gv_certs.specs.declared.fault.RuleFault.TheVariants as fault
 use Rattle.gv_certs.specs.Laws.{HasTerms}
-use Rattle.gv_certs.specs.Proving.{Certificate, cases, then}
+use Rattle.gv_certs.specs.Proving.{Certificate, by, known, compute, linear, cases, then}
 use Rattle.gv_sums.specs.declared.factored.FactoredTerm.{FactoredTerm}
 use Rattle.gv_sums.specs.Reading.{row_at, formulas_in}
 use Rattle.gv_have.specs.Scoping.{cases_in, step_in}
+use Rattle.gv_have.proofs.Forms.{stepped}
 use Rattle.gv_have.specs.Telling.{IsUnscoped, IsScoped}
 
 -- ---- there
@@ -36,9 +38,6 @@ pub scoped_cases : (x : Option TermTree) (h d : Option Certificate) (t : TermTre
 scoped_cases x h d t is terms (a, e, p) (b, f, q) =
     subst (λ o. IsScoped (cases_in o h d)) (sym is)
     (subst (λ o. IsScoped (cases_in (Some t) o d)) (sym e) (subst (λ o. IsScoped (cases_in (Some t) (Some a) o)) (sym f) (cases t a b, refl, (terms, p, q))))
-
-abbrev pub stepped : Option TermTree → Option Certificate → Option Certificate → Option Certificate
-stepped x k r = with_some (step_in x k) (λ p. option_map (then p.0 p.1) r)
 
 pub scoped_step : (x : Option TermTree) (k r : Option Certificate) (t : TermTree) → x ≡ Some t → AreTerms (t ∷ []) → IsScoped k → IsScoped r → IsScoped (stepped x k r)
 scoped_step x k r t is terms (a, e, p) (b, f, q) =
@@ -93,3 +92,12 @@ no_later (Some t) (Some c) r e = ap (option_map (then t c)) e
 pub unscoped_through : {A B : Type 0} (x : Option A) (y : Option B) (e : RuleFault) → (x ≡ None → y ≡ None) → IsUnscoped x e → IsUnscoped y e
 unscoped_through x y fault.NoMemory f h = tt
 unscoped_through x y (fault.Cause k) f h = (h.0, f h.1)
+
+abbrev pub make_linear : List TermTree → List (ℤ × TermTree) → Certificate
+make_linear ts rs = linear (record { sums = ts; rows = rs })
+
+pub scoped_known : IsScoped (Some (by known))
+scoped_known = (by known, refl, All-nil (λ u. IsSome (sort_of u) × (numbers_are_words u ≡ true)))
+
+pub scoped_compute : IsScoped (Some (by compute))
+scoped_compute = (by compute, refl, All-nil (λ u. IsSome (sort_of u) × (numbers_are_words u ≡ true)))

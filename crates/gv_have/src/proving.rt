@@ -79,10 +79,11 @@ pub(crate) fn prove(
             let steps = steps.as_slice();
             for i in 0..steps.len() {
                 let known = facts.len();
-                let step = formula(alloc, store, scope, &steps[i].formula)?;
-                prove(alloc, store, scope, facts, step, &steps[i].cert)?;
+                let step = &steps[i];
+                let shown = formula(alloc, store, scope, &step.formula)?;
+                prove(alloc, store, scope, facts, shown, &step.cert)?;
                 facts.truncate(known);
-                facts.push(step)?;
+                facts.push(shown)?;
             }
             prove(alloc, store, scope, facts, goal, last)
         }

@@ -131,8 +131,9 @@ pub(crate) fn check_scope(
         Cert::Steps { steps, last } => {
             let steps = steps.as_slice();
             for i in 0..steps.len() {
-                formula(alloc, store, scope, &steps[i].formula)?;
-                check_scope(alloc, store, scope, &steps[i].cert)?;
+                let step = &steps[i];
+                formula(alloc, store, scope, &step.formula)?;
+                check_scope(alloc, store, scope, &step.cert)?;
             }
             check_scope(alloc, store, scope, last)
         }

@@ -121,9 +121,10 @@ pub(crate) fn rows(
 {
     let mut made = Vec::new(alloc);
     for i in 0..rows.len() {
-        let formula = formula(alloc, store, scope, &rows[i].formula)?;
+        let row = &rows[i];
+        let formula = formula(alloc, store, scope, &row.formula)?;
         made.push(FactoredTerm {
-            factor: rows[i].factor,
+            factor: row.factor,
             formula,
         })?;
     }
