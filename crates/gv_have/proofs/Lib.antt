@@ -1,5 +1,0 @@
-pub mod Forms
-pub mod Termed
-pub mod Scoped
-pub mod Proofs
-pub mod Shown
