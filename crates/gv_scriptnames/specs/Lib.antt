@@ -1,0 +1,10 @@
+pub mod Names
+pub mod Mentions
+pub mod Outlines
+pub mod Scopes
+pub mod Told
+pub mod Faults
+pub mod Found
+pub mod Laws
+pub mod Rows
+pub mod Constructs
