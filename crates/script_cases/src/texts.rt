@@ -1,5 +1,6 @@
 //! How a table writes its texts.
 
+use crate::fronts::fronts_by_bytes;
 use crate::shown::{MOST, answer_text, answer_tree, tokens_of};
 use anyhow::{Context, Result, bail};
 use case_table::{Meaning, unescaped};
@@ -8,7 +9,8 @@ use std::alloc::Global;
 /// How the texts are written: whole; as parts that are separated by ` @ `, each with how many times it stands, as in
 /// `1 crash C; @ 200 (`; or as what stands in a script of their own, on lines of its second one: the commands of its first
 /// block, a certificate, the items of a heap, or declarations before and behind its blocks. Or whole, where the table wants
-/// how many of the fronts that end with a token are unfinished, and how many are scripts.
+/// how many of the fronts that end with a token are unfinished, and how many are scripts; or how each front is refused that lacks the
+/// last byte.
 #[derive(Clone, Copy, Debug)]
 pub(crate) enum Texts {
     Whole,
@@ -19,6 +21,7 @@ pub(crate) enum Texts {
     Before,
     Behind,
     Fronts,
+    ByBytes,
 }
 
 // What stands before and behind such a text, and the tree of a script with another one in its place.
@@ -47,7 +50,7 @@ fn frame_of(texts: Texts) -> ([&'static str; 2], [&'static str; 2]) {
             ["crash C; root R; init { } recover { }\n", ""],
             ["[] [] C R {} {} ", ""],
         ),
-        Texts::Whole | Texts::InParts | Texts::Fronts => (["", ""], ["", ""]),
+        Texts::Whole | Texts::InParts | Texts::Fronts | Texts::ByBytes => (["", ""], ["", ""]),
     }
 }
 
@@ -138,6 +141,7 @@ impl Meaning for Texts {
             "declarations before the blocks" => *self = Texts::Before,
             "declarations behind the blocks" => *self = Texts::Behind,
             "fronts of texts" => *self = Texts::Fronts,
+            "fronts by bytes" => *self = Texts::ByBytes,
             _ => return Ok(false),
         }
         Ok(true)
@@ -148,6 +152,7 @@ impl Meaning for Texts {
             Texts::Whole => other_than(answer_tree(alloc, &unescaped(alloc, said)?)?, want),
             Texts::InParts => other_than(answer_text(alloc, &joined(alloc, said)?)?, want),
             Texts::Fronts => other_than(fronts(alloc, &unescaped(alloc, said)?)?, want),
+            Texts::ByBytes => other_than(fronts_by_bytes(alloc, &unescaped(alloc, said)?)?, want),
             Texts::Commands | Texts::Certificate | Texts::Heap | Texts::Before | Texts::Behind =>
                 other_within(alloc, *self, said, want),
         }
