@@ -29,7 +29,11 @@ fn last_start(alloc: Global, text: &[u8]) -> Result<usize> {
     let Ok(tokens) = tokens_of(alloc, text)? else {
         return Ok(text.len());
     };
-    Ok(tokens.last().map_or(text.len(), |token| token.start as usize))
+    Ok(
+        tokens
+            .last()
+            .map_or(text.len(), |token| token.start as usize),
+    )
 }
 
 // The counts with one front more, or none where it is refused in no such way.
@@ -83,7 +87,7 @@ pub(crate) fn fronts_by_bytes(alloc: Global, text: &[u8]) -> Result<String> {
         cut,
         dotted,
     } = counts;
-    Ok(
-        format!(in alloc; "{whole} whole, {ended} at the end, {cut} at a cut word, {dotted} at a dot")?,
-    )
+    Ok(format!(in alloc;
+        "{whole} whole, {ended} at the end, {cut} at a cut word, {dotted} at a dot"
+    )?)
 }
