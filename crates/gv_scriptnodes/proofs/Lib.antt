@@ -1,0 +1,16 @@
+pub mod Opened
+pub mod NoTokens
+pub mod Made
+pub mod Tops
+pub mod NameActs
+pub mod DeclActs
+pub mod BlockActs
+pub mod Taken
+pub mod Ends
+pub mod Gathering
+pub mod CommandActs
+pub mod Named
+pub mod MentionActs
+pub mod Steps
+pub mod Owns
+pub mod Whole

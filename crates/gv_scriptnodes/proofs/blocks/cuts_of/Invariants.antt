@@ -1,0 +1,18 @@
+use Rattle.std.specs.Prelude.{◌<◌, List, length}
+use Rattle.gv_termread.specs.declared.generated.term_acts.Part.TheVariants.{Other as POther}
+use Rattle.gv_scriptsyntax.specs.declared.tree.Cut.{Cut}
+use Rattle.gv_scriptsyntax.specs.declared.generated.script_acts.ScriptPart.TheVariants.{Cuts as PCuts}
+use Rattle.gv_scriptsyntax.specs.Nodes.{IsPartAt}
+use Rattle.gv_scriptnames.specs.Outlines.{of_cut}
+use Rattle.gv_scriptnodes.specs.Lasts.{IsLeft}
+use Rattle.gv_scriptnodes.proofs.blocks.cuts_of.Given as goal
+
+-- those that were taken follow those that are left
+abbrev pub invariant-loop-alloc : goal.invariant-loop-alloc
+invariant-loop-alloc l = record {
+  within : l.place < length l.nodes;
+  left : (whole : List Cut) → IsPartAt l.text l.nodes l.at (POther (PCuts whole)) → IsLeft (λ place cuts. IsPartAt l.text l.nodes place (POther (PCuts cuts))) of_cut l.place l.cuts.items whole;
+}
+
+abbrev pub decreases-loop-alloc : goal.decreases-loop-alloc
+decreases-loop-alloc l = l.place

@@ -1,0 +1,10 @@
+use Rattle.std.proofs.Common.{◌≡◌}
+use Rattle.gv_scriptnodes.proofs.MentionActs.{cell_named}
+use Rattle.gv_scriptnodes.proofs.mentions.cell_mention.Goals as goal
+
+pub returns : goal.returns
+returns c =
+    let n = cell_named c.args.text.now c.args.nodes.now c.args.at c.requires.formed c.requires.made in
+    let whole = n.same in
+    let q_name : c.token_of-name.result ≡ n.name = n.at_name c.token_of-name.result c.token_of-name.ensures in
+    cc
