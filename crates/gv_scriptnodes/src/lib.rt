@@ -16,7 +16,6 @@ mod preds;
 
 pub use blocks::{body_of, cuts_of, ops_of, procs_of};
 pub use books::books_of;
-pub use last::Last;
 pub use mentions::mentions_of;
 pub use names::{count_terms, names_of, pars_of};
 pub use outline::outline_of;
