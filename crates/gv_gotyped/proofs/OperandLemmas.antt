@@ -36,10 +36,10 @@ stands env e fs o start first m r is there known made part told = record {
 }
 
 -- what is made of a part is made of the operand that it is
-moved : (f : Part → Outcome) (m : Made) (p q : Part) → p ≡ q → IsMade m (f p) → IsMade m (f q)
+pub moved : (f : Part → Outcome) (m : Made) (p q : Part) → p ≡ q → IsMade m (f p) → IsMade m (f q)
 moved f m p q e h = subst (λ (x : Part). IsMade m (f x)) e h
 
-starts : (p q : Part) → p ≡ q → at p.spot.start ≡ at q.spot.start
+pub starts : (p q : Part) → p ≡ q → at p.spot.start ≡ at q.spot.start
 starts p q e = ap (λ (x : Part). at x.spot.start) e
 
 pub paren_stands : (env : Env) (t : Lexeme) (e : Expr) (k r : Operand)

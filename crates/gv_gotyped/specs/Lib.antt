@@ -1,3 +1,4 @@
 pub mod First
 pub mod Kinds
 pub mod Operands
+pub mod Parts

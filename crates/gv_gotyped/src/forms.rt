@@ -5,6 +5,7 @@ ghost use Rattle.gv_gotypes.specs.Types.{Finding};
 ghost use Rattle.gv_gotypes.specs.Places as place;
 ghost use Rattle.gv_gotypes.specs.Expressions as expr;
 ghost use Rattle.gv_gotyped.specs.First.{first_of, AreFaults, IsMade};
+ghost use Rattle.gv_gotyped.specs.Parts.{listed};
 
 use crate::fault::{Fault, earliest};
 use crate::outcomes::Made;
@@ -299,5 +300,98 @@ pub fn convert_made(word: Lexeme, part: Part) -> Made
             first: None,
         },
         Some(class) => convert_something(word, part.spot, class),
+    }
+}
+
+// ---- subslices
+
+fn bound_refusal(bound: Option<Part>) -> Option<Fault>
+    ensures { result ≡ first_of (place.refusals (listed bound)) }
+{
+    match bound {
+        Some(part) => part_refusal(part),
+        None => None,
+    }
+}
+
+fn slice_refusal(whole: Part, low: Option<Part>, high: Option<Part>) -> Option<Fault>
+    ensures { result ≡ first_of (place.refusals (whole ∷ (listed low ++ listed high))) }
+{
+    let own = part_refusal(whole);
+    let below = bound_refusal(low);
+    let above = bound_refusal(high);
+    let bounds = earliest(below, above);
+    earliest(own, bounds)
+}
+
+// A bound that is there and nothing.
+fn is_nothing(bound: Option<Part>) -> bool
+    ensures { result ≡ place.some_is_nothing (listed bound) }
+{
+    match bound {
+        Some(part) => part.class.is_none(),
+        None => false,
+    }
+}
+
+fn bound_fits(bound: Option<Part>) -> bool
+    ensures { result ≡ expr.bounds_fit (listed bound) }
+{
+    match bound {
+        Some(part) => match part.class {
+            Some(class) => takes_word(class),
+            None => false,
+        },
+        None => true,
+    }
+}
+
+fn slice_class(class: Class) -> Option<Class>
+    ensures { result ≡ expr.slice_class class }
+{
+    match class {
+        Class::Run(kind) => match item_of(kind) {
+            Some(_) => Some(class),
+            None => None,
+        },
+        _ => None,
+    }
+}
+
+fn sliced(class: Option<Class>, low: Option<Part>, high: Option<Part>) -> Option<Class>
+    ensures { result ≡ expr.sliced class (listed low ++ listed high) }
+{
+    match class {
+        Some(class) => {
+            if bound_fits(low) && bound_fits(high) {
+                slice_class(class)
+            } else {
+                None
+            }
+        }
+        None => None,
+    }
+}
+
+// Some part of a subslice is nothing.
+fn some_nothing(whole: Part, low: Option<Part>, high: Option<Part>) -> bool
+    ensures { result ≡ place.some_is_nothing (whole ∷ (listed low ++ listed high)) }
+{
+    whole.class.is_none() || is_nothing(low) || is_nothing(high)
+}
+
+/// What `e[a:b]` is, with the bounds that are there.
+pub fn slice_made(whole: Part, low: Option<Part>, high: Option<Part>) -> Made
+    ensures { IsMade result (expr.slice_outcome whole.spot whole.class (listed low ++ listed high)) }
+{
+    let refused = slice_refusal(whole, low, high);
+    if some_nothing(whole, low, high) {
+        Made {
+            class: None,
+            first: refused,
+        }
+    } else {
+        let made = sliced(whole.class, low, high);
+        whole_form(refused, made, whole.spot.start)
     }
 }

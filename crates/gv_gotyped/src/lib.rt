@@ -7,6 +7,7 @@
 mod fault;
 mod forms;
 mod kinds;
+mod members;
 mod names;
 mod operands;
 mod outcomes;
@@ -17,7 +18,11 @@ pub use kinds::{
     WrittenType, written_block, written_map, written_pointer, written_pointers, written_slice,
     written_word,
 };
+pub use members::Member;
 pub use names::name_operand;
-pub use operands::{binary_operand, convert_operand, index_operand, paren_operand, unary_operand};
+pub use operands::{
+    binary_operand, convert_operand, index_operand, library_operand, literal_operand,
+    paren_operand, select_operand, slice_operand, unary_operand,
+};
 pub use outcomes::{Made, Operand};
 pub use places::in_place;

@@ -18,8 +18,8 @@ use gv_gosyntax::Lexeme;
 use gv_gotypes::{Entity, Found};
 use gv_operands::{Class, GoType};
 
-// A variable by its type.
-fn run_of(kind: Option<GoType>) -> Option<Class>
+/// A variable by its type.
+pub(crate) fn run_of(kind: Option<GoType>) -> Option<Class>
     ensures { result ≡ option_map Run kind }
 {
     match kind {

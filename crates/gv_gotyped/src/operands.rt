@@ -1,16 +1,25 @@
 //! Operands of operands: each function makes of what is known of the parts what is known of the whole.
 
-ghost use Rattle.std.specs.Prelude.{◌≡◌};
-ghost use Rattle.gv_gotypes.specs.Scopes.{Env};
+ghost use Rattle.std.specs.Prelude.{◌≡◌, Some, None, option_map, option_and_then};
+ghost use Rattle.gv_gosyntax.specs.declared.lexeme.Lexeme.{Lexeme as AnyLexeme};
+ghost use Rattle.gv_gotypes.specs.declared.names.Library.{Library};
+ghost use Rattle.gv_gotypes.specs.Scopes.{Env, name_in};
+ghost use Rattle.gv_gotypes.specs.Members.{library_member};
+ghost use Rattle.gv_gotypes.specs.Expressions as expr;
 ghost use Rattle.gv_gotypes.specs.Trees as tree;
 ghost use Rattle.gv_gotyped.specs.First.{earliest as earliest_of};
+ghost use Rattle.gv_gotyped.specs.First.{IsMade};
 ghost use Rattle.gv_gotyped.specs.Operands.{IsOperand};
+ghost use Rattle.gv_gotyped.specs.Parts.{IsBound, IsValueOf, IsMember, IsMemberOf};
 
 use crate::fault::{Fault, earliest};
-use crate::forms::{binary_made, convert_made, index_made, unary_made};
+use crate::forms::{binary_made, convert_made, index_made, slice_made, unary_made};
+use crate::members::{Member, member_made};
 use crate::outcomes::{Made, Operand};
+use crate::places::{refusal, wrong_type};
 use gv_gosyntax::Lexeme;
-use gv_operands::{Part, Spot};
+use gv_gosyntax::generated::gosyntax_table::{CLASS_FALSE, CLASS_NUMBER, CLASS_TRUE};
+use gv_operands::{Class, GoType, Kind, Part, Spot, Value};
 
 // What is made of parts, behind the fault of these that is told. It begins here, with no parentheses of its own.
 fn behind(start: u32, first: Option<Fault>, made: Made) -> Operand
@@ -97,4 +106,116 @@ pub fn index_operand(whole: Operand, index: Operand) -> Operand
     let made = index_made(whole.part, index.part);
     let first = earliest(whole.first, index.first);
     behind(whole.part.spot.start, first, made)
+}
+
+// A bound as a part, and the fault in it that is told.
+fn part_in(bound: Option<Operand>) -> Option<Part>
+    ensures { result ≡ option_map (λ known. known.part) bound }
+{
+    match bound {
+        Some(known) => Some(known.part),
+        None => None,
+    }
+}
+
+fn first_in(bound: Option<Operand>) -> Option<Fault>
+    ensures { result ≡ option_and_then (λ known. known.first) bound }
+{
+    match bound {
+        Some(known) => known.first,
+        None => None,
+    }
+}
+
+/// `e[a:b]`, with the bounds that are there
+pub fn slice_operand(whole: Operand, low: Option<Operand>, high: Option<Operand>) -> Operand
+    ensures { (env : Env) (e : tree.Expr) (a b : tree.Bound) → IsOperand env e whole → IsBound env a low → IsBound env b high
+        → IsOperand env (tree.Slice e a b) result }
+{
+    let made = slice_made(whole.part, part_in(low), part_in(high));
+    let below = first_in(low);
+    let above = first_in(high);
+    let bounds = earliest(below, above);
+    let first = earliest(whole.first, bounds);
+    behind(whole.part.spot.start, first, made)
+}
+
+// What a literal is.
+fn literal_class(class: u8, value: u64) -> Class
+    ensures { (env : Env) (t : AnyLexeme) → t.class ≡ class → IsValueOf env t value → result ≡ expr.literal_class env.source t }
+{
+    match class {
+        CLASS_NUMBER => Class::Fixed(Kind::Untyped, Some(Value::Count(value))),
+        CLASS_TRUE => Class::Fixed(Kind::OfBool, Some(Value::Truth(true))),
+        CLASS_FALSE => Class::Fixed(Kind::OfBool, Some(Value::Truth(false))),
+        _ => Class::Nil,
+    }
+}
+
+/// A number with its value, `true`, `false` or `nil`.
+pub fn literal_operand(token: Lexeme, value: u64) -> Operand
+    ensures { (env : Env) → IsValueOf env token value → IsOperand env (tree.Constant token) result }
+{
+    let class = literal_class(token.class, value);
+    made_at(
+        token.start,
+        Made {
+            class: Some(class),
+            first: None,
+        },
+    )
+}
+
+/// `PACKAGE.NAME`, where the word stands for a package: `member` is what that has by the name.
+pub fn library_operand(word: Lexeme, name: Lexeme, member: Option<Member>) -> Operand
+    ensures { (env : Env) (l : Library) → expr.library_of env (tree.Name word) ≡ Some l
+        → IsMember member (library_member l (name_in env.source name)) → IsOperand env (tree.Select (tree.Name word) name) result }
+{
+    made_at(word.start, member_made(member, name.start, word.start))
+}
+
+// A member of an operand that is something.
+fn pointer_made(whole: Part, class: Class, name: Lexeme, member: Option<Member>) -> Made
+    ensures { (env : Env) → IsMemberOf env (Some class) name member → IsMade result (expr.class_member env class name whole.spot.start) }
+{
+    match class {
+        Class::Run(GoType::Pointer(_)) => member_made(member, name.start, whole.spot.start),
+        _ => Made {
+            class: None,
+            first: wrong_type(whole.spot.start),
+        },
+    }
+}
+
+fn select_something(whole: Part, class: Class, name: Lexeme, member: Option<Member>) -> Made
+    ensures { (env : Env) → IsMemberOf env (Some class) name member → IsMade result (expr.select_outcome env whole.spot name (Some class)) }
+{
+    match refusal(whole.spot, class) {
+        Some(fault) => Made {
+            class: None,
+            first: Some(fault),
+        },
+        None => pointer_made(whole, class, name, member),
+    }
+}
+
+fn select_made(whole: Part, name: Lexeme, member: Option<Member>) -> Made
+    ensures { (env : Env) → IsMemberOf env whole.class name member → IsMade result (expr.select_outcome env whole.spot name whole.class) }
+{
+    match whole.class {
+        Some(class) => select_something(whole, class, name, member),
+        None => Made {
+            class: None,
+            first: None,
+        },
+    }
+}
+
+/// `e.NAME`, where e names no package: `member` is what stands behind the point, where e points to something.
+pub fn select_operand(whole: Operand, name: Lexeme, member: Option<Member>) -> Operand
+    ensures { (env : Env) (e : tree.Expr) → IsOperand env e whole → expr.library_of env e ≡ None
+        → IsMemberOf env whole.part.class name member → IsOperand env (tree.Select e name) result }
+{
+    let made = select_made(whole.part, name, member);
+    behind(whole.part.spot.start, whole.first, made)
 }
