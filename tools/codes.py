@@ -26,7 +26,7 @@ CODES = [
     ("TooDeep", "the token that opens level 201"),
     ("EndOfText", "the text ends where the grammar wants more; the place is behind the last byte"),
     ("Undeclared", "a name that nothing declares"),
-    ("Twice", "a name that is declared a second time"),
+    ("Twice", "a name that is declared a second time, or that a constant of terms has; a field that one body assigns twice"),
     ("WrongType", "an expression, a term or a value of another type than its place wants"),
     ("WrongCount", "too few or too many parts"),
     ("NotAssignable", "a left side that can't be assigned"),
@@ -75,6 +75,15 @@ FORMS = {
     "schedule": "schedule",
 }
 
+# what stands before and behind a case of a specification in each form of its table; another form asks something else of a text
+FRAMES = {
+    "text": ("", ""),
+    "tree": ("", ""),
+    "whole": ("", ""),
+    "line": ("spec s; disks 0;\\n", "\\ncrash {}"),
+    "middle": ("spec s; disks 0;\\n", "\\ncrash {}"),
+}
+
 
 def cases_of(path):
     """The cases of a table: the form that stands above, what is given, and what is wanted."""
@@ -90,12 +99,19 @@ def cases_of(path):
                 yield form, said, want
 
 
+def length(text):
+    """How many bytes a table's text has: `\\n` and `\\xHH` are one, `[[PIECE*COUNT]]` is the piece so many times."""
+    text = re.sub(r"\[\[(.*?)\*(\d+)\]\]", lambda it: it[1] * int(it[2]), text)
+    return len(re.sub(r"\\x[0-9A-Fa-f]{2}|\\.", "n", text).encode())
+
+
 def refusals():
     """For each code its cases: kind of text, text and place."""
     found = {}
     tables = f"{TOP}/crates"
     for name, kind in (("token_cases/data/go.txt", "package"), ("token_cases/data/own.txt", "any own text"),
-                       ("spec_cases/data/specifications.txt", "specification"), ("walk_cases/data/lines.txt", "")):
+                       ("spec_cases/data/specifications.txt", "specification"), ("spec_cases/data/meanings.txt", "specification"),
+                       ("walk_cases/data/lines.txt", "")):
         if not os.path.exists(f"{tables}/{name}"):
             continue
         for form, said, want in cases_of(f"{tables}/{name}"):
@@ -106,10 +122,13 @@ def refusals():
             if not kind:
                 word, _, text = said.partition(" forms")
                 of, text = FORMS.get(word, ""), text[1:]
-            elif kind == "specification" and form not in ("whole", "text", "tree"):
-                continue
+            elif kind == "specification":
+                if form not in FRAMES:
+                    continue
+                front, back = FRAMES[form]
+                text = front + said + back
             if of:
-                found.setdefault(told[2], []).append((len(text), of, text, told[1]))
+                found.setdefault(told[2], []).append((length(text), len(text), of, text, told[1]))
     return found
 
 
@@ -156,7 +175,7 @@ def page():
     for number, (code, meaning) in enumerate(CODES, 1):
         cases = sorted(found.get(code, []))
         if cases:
-            _, of, text, place = cases[0]
+            *_, of, text, place = cases[0]
             lines.append(f"| {number} | `{code}` | {meaning} | {of} | {shown(text)} | {place} |")
         else:
             lines.append(f"| {number} | `{code}` | {meaning} | {elsewhere.get(code, 'not made yet')} | | |")
