@@ -1,3 +1,4 @@
 pub mod Heard
+pub mod Output
 pub mod Ran
 pub mod Report

@@ -4,13 +4,19 @@
 mod answer;
 mod bytes;
 mod cause;
+mod format;
+mod json_form;
 mod lines;
+mod output;
 mod pieces;
 mod ran;
 mod report;
 
 pub use answer::Answer;
 pub use cause::Cause;
+pub use format::Format;
+pub use json_form::{json, report_lines};
 pub use lines::text;
+pub use output::Output;
 pub use ran::Ran;
 pub use report::Report;

@@ -1,0 +1,110 @@
+#!/usr/bin/env python3
+"""Reads answers in JSON back by Python's own reader, which the gate doesn't: the gate compares bytes.
+
+  read_json.py            reads the answer of each case of the table of lines of json_cases: it must have the digests, the lines and the
+                          status that the case gives, in this order, and must be what Python writes of them without a space
+  read_json.py PROGRAM    besides runs each example twice, as text and in JSON, which must agree with each other and with the files' digests
+
+Prints what differs and how many were read, and ends with 1 where one differs.
+"""
+import hashlib
+import json
+import os
+import re
+import subprocess
+import sys
+
+TOP = os.path.dirname(os.path.dirname(os.path.abspath(__file__)))
+TABLE = f"{TOP}/crates/json_cases/data/lines.txt"
+KEYS = ["digests", "lines", "status"]
+ESCAPES = {b"n": b"\n", b"r": b"\r", b"t": b"\t", b"\\": b"\\"}
+
+
+def unescaped(text):
+    """The bytes that a table writes so."""
+    def one(found):
+        letter = found[1]
+        return bytes([int(letter[1:], 16)]) if letter[:1] == b"x" else ESCAPES[letter]
+
+    return re.sub(rb"\\(x[0-9A-Fa-f]{2}|.)", one, text.encode())
+
+
+def as_text(data):
+    """Bytes as an answer has them: nothing of them where they are no UTF-8."""
+    try:
+        return data.decode()
+    except UnicodeDecodeError:
+        return ""
+
+
+def given(said):
+    """The answer that a case gives: its status, and then digests and lines."""
+    status, *parts = said.split(" | ")
+    answer = {"digests": [], "lines": [], "status": int(status)}
+    for part in parts:
+        head, _, text = part.partition(":")
+        word, _, count = head.partition("*")
+        answer[word + "s"] += [as_text(unescaped(text))] * int(count or 1)
+    return answer
+
+
+def differs(line, answer):
+    """Why a line isn't this answer, or nothing."""
+    try:
+        read = json.loads(line)
+    except ValueError as error:
+        return f"no JSON: {error}"
+    if list(read) != KEYS:
+        return f"its keys are {list(read)}"
+    if read != answer:
+        return f"it reads as {read}, and not as {answer}"
+    if line != json.dumps(answer, ensure_ascii=False, separators=(",", ":")):
+        return "Python writes it otherwise"
+    return None
+
+
+def cases():
+    """What differs of each case of the table, by its name."""
+    with open(TABLE, encoding="utf-8", newline="\n") as table:
+        for row in table.read().split("\n"):
+            name, colon, rest = row.partition(": ")
+            said, arrow, want = rest.partition(" => ")
+            if colon and arrow and not row.startswith("//"):
+                yield name, differs(want, given(said))
+
+
+def examples(program):
+    """What differs of each example, run as text and in JSON."""
+    for name in sorted(os.listdir(f"{TOP}/examples")):
+        folder = f"{TOP}/examples/{name}"
+        with open(f"{folder}/words", encoding="utf-8") as it:
+            words = it.read().split()
+        text = subprocess.run([program, *words], cwd=folder, stdout=subprocess.PIPE)
+        line = subprocess.run([program, *words, "json"], cwd=folder, stdout=subprocess.PIPE)
+        if line.returncode == 2:
+            yield name, "the program takes no word json"
+            continue
+        digests = [hashlib.sha256(open(f"{folder}/{file}", "rb").read()).hexdigest() for file in words[1:]]
+        fetched = len(json.loads(line.stdout)["digests"]) if line.returncode == 4 else len(digests)
+        answer = {"digests": digests[:fetched], "lines": text.stdout.decode().split("\n")[:-1], "status": text.returncode}
+        if line.returncode != text.returncode:
+            yield name, f"its status is {line.returncode}, and as text {text.returncode}"
+        elif not line.stdout.endswith(b"\n"):
+            yield name, "no newline at the end"
+        else:
+            yield name, differs(line.stdout[:-1].decode(), answer)
+
+
+def main(words):
+    found = list(cases())
+    for program in words:
+        found += examples(os.path.abspath(program))
+    wrong = [(name, why) for name, why in found if why]
+    for name, why in wrong:
+        print(f"{name}: {why}", file=sys.stderr)
+    print(f"{len(found) - len(wrong)} of {len(found)} read back")
+    return 1 if wrong else 0
+
+
+if __name__ == "__main__":
+    sys.exit(main(sys.argv[1:]))
