@@ -1,5 +1,6 @@
 -- The JSON line of an answer: one object (RFC 8259) in compact form, and a newline.
-use Rattle.std.specs.Prelude.{◌≡◌, Some, ℕ, ◌+◌, ◌/◌, ◌%◌, ◌==◌, nat_lt, if◌then◌else◌, List, [], ◌∷◌, ◌++◌, map, flat_map, codes, decimal}
+use Rattle.std.specs.Prelude.{◌≡◌, Some, ℕ, ◌+◌, ◌/◌, ◌%◌, ◌==◌, nat_lt, if◌then◌else◌, List, [], ◌∷◌, ◌++◌, map, flat_map, codes, decimal, Bool, true, not}
+use Rattle.std.specs.List.{list_all}
 use Rattle.std.specs.Str.{is_utf8}
 use Rattle.serde_json.specs.Data.{Data, string, array, number, unsigned, object, member, no_members}
 use Rattle.serde_json.specs.Read.{read}
@@ -62,8 +63,13 @@ abbrev pub value_of : (digests lines : List (List ℕ)) → ℕ → Data
 value_of digests lines status =
     object (member (codes "digests") (texts digests) (member (codes "lines") (texts lines) (member (codes "status") (number (unsigned status)) no_members)))
 
--- a text is a newline behind what a reader of JSON makes this value of
+-- no newline stands among the bytes
+abbrev pub is_one_line : List ℕ → Bool
+is_one_line = list_all (λ x. not (x == 10))
+
+-- a text is one line: a newline behind what a reader of JSON makes this value of
 pub record IsLineOf (text : List ℕ) (value : Data) : Type 0 where
   pub json : List ℕ
   pub whole : text ≡ json ++ 10 ∷ []
+  pub single : is_one_line json ≡ true
   pub reads : read json ≡ Some value

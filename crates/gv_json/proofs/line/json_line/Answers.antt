@@ -4,6 +4,7 @@ use Rattle.serde_json.specs.Written.{has_float, compact_text}
 use Rattle.serde_json.specs.Read.{read, max_depth}
 use Rattle.gv_json.specs.Line.{object_of, value_of}
 use Rattle.gv_json.proofs.LineLemmas.{no_float, shallow, object_text}
+use Rattle.gv_json.proofs.SingleLemmas.{object_is_one_line}
 use Rattle.gv_json.proofs.line.json_line.Goals as goal
 
 -- what was written of the object
@@ -28,5 +29,6 @@ pub returns-clause-reads : goal.returns-clause-reads
 returns-clause-reads c = record {
   json = object_of c.args.digests.now c.args.lines.now c.args.status;
   whole = returns-clause-line c;
+  single = object_is_one_line c.args.digests.now c.args.lines.now c.args.status;
   reads = back c.in_ok-text.text.items _ c.args.digests.now c.args.lines.now c.args.status c.in_ok-object.ensures c.in_ok-text.ensures.text c.in_ok-text.ensures.reads_back;
 }
