@@ -1,5 +1,6 @@
 -- A report as it is written: in the format that was asked for.
-use Rattle.std.specs.Prelude.{◌≡◌, ℕ, List}
+use Rattle.std.specs.Prelude.{◌≡◌, ℕ, List, [], ◌∷◌, ◌++◌}
+use Rattle.gv_digest.specs.Digests.{digest_of}
 use Rattle.gv_json.specs.Line.{line_of}
 use Rattle.gv_report.specs.declared.report.Report.{Report}
 use Rattle.gv_report.specs.declared.report.Report.TheVariants.{Usage, OutOfMemory}
@@ -15,6 +16,11 @@ abbrev pub json_of : List (List ℕ) → Report → List ℕ
 json_of digests Usage = text_of Usage
 json_of digests OutOfMemory = text_of OutOfMemory
 json_of digests report = line_of digests (lines_of report) (status_of report)
+
+-- the format once these bytes of a file were fetched: in JSON their digest stands behind those of the files before it
+abbrev pub noted : Format → List ℕ → Format
+noted Text bytes = Text
+noted (Json digests) bytes = Json (digests ++ digest_of bytes ∷ [])
 
 -- all that is written of a report
 abbrev pub output_of : Format → Report → List ℕ

@@ -88,6 +88,28 @@ fn tells_some_as_text(rt: HostRuntime) -> Result<(), Fail> {
     tells(&rt, alloc, Report::Usage, 2, usage.as_slice())
 }
 
+// The line of an explanation whose format noted two files, and its text whose format noted one.
+#[test]
+fn notes_files(rt: HostRuntime) -> Result<(), Fail> {
+    let alloc = rt.alloc();
+    let mut format = Format::Json {
+        digests: List::new(alloc),
+    };
+    format.note(alloc, b"abc")?;
+    format.note(alloc, b"")?;
+    let mut text = Format::Text;
+    text.note(alloc, b"abc")?;
+    let line: &[u8] =
+        b"{\"digests\":[\"ba7816bf8f01cfea414140de5dae2223b00361a396177a9cb410ff61f20015ad\",\"e3b0c44298fc1c149afbf4c8996fb92427ae41e4649b934ca495991b7852b855\"],\"lines\":[\"explained\"],\"status\":0}\n";
+    for (format, line) in [(format, line), (text, b"explained\n")] {
+        let mut sink = MemSink::new(alloc, 1000, List::new(alloc))?;
+        let output = Output::new(alloc, Report::Explained, format);
+        assert_eq!(rt; output.tell(&mut sink), 0);
+        assert_eq!(rt; sink.written().as_slice(), line);
+    }
+    Ok(())
+}
+
 // A run of 100,000 crashes.
 fn crashes(alloc: Global) -> Result<Report, Fail> {
     let crash = Name::from_slice(alloc, b"crash")?;
