@@ -1,5 +1,5 @@
 -- One more of what is printed.
-use Rattle.std.proofs.Common.{◌≡◌, ℕ, ◌+◌, ◌<◌, ◌≤◌, Bool, true, false, List, [], ◌∷◌, ◌++◌, length, take, get_or, Option, Some, None, refl, sym, ap, ◌∙◌, arith, append_assoc}
+use Rattle.std.proofs.Common.{◌≡◌, ℕ, ◌+◌, ◌<◌, ◌≤◌, Bool, true, false, List, [], ◌∷◌, ◌++◌, length, take, get_or, Some, None, refl, sym, ap, ◌∙◌, arith, append_assoc}
 use Rattle.std.specs.Prelude.{slice_get, if◌then◌else◌}
 use Rattle.std.proofs.lemmas.List.{take_more, append-nil}
 use Rattle.gv_terms.specs.declared.value.Value.{Value}
@@ -9,11 +9,11 @@ use Rattle.gv_spec.specs.declared.entry.Entry.{Entry}
 use Rattle.gv_lines.specs.Lines.{hex_of, are_all, repeated_text, digits_text, values_text, value_text, entry_line, entry_lines, name_in, op_name}
 
 -- the front of a list with one item more
-front_next : {A : Type 0} (xs : List A) (i : ℕ) (x : A) → i < length xs → x ≡ get_or xs i x → take (i + 1) xs ≡ take i xs ++ x ∷ []
+pub front_next : {A : Type 0} (xs : List A) (i : ℕ) (x : A) → i < length xs → x ≡ get_or xs i x → take (i + 1) xs ≡ take i xs ++ x ∷ []
 front_next xs i x h is = take_more xs i x h ∙ ap (λ y. take i xs ++ y ∷ []) (sym is)
 
 -- what is appended to a text that a front of the list has made
-appended : (start out new front text all : List ℕ) → out ≡ start ++ front → new ≡ out ++ text → all ≡ front ++ text → new ≡ start ++ all
+pub appended : (start out new front text all : List ℕ) → out ≡ start ++ front → new ≡ out ++ text → all ≡ front ++ text → new ≡ start ++ all
 appended start out new front text all h k e =
     k ∙ ap (λ (v : List ℕ). v ++ text) h ∙ append_assoc start front text ∙ ap (λ (v : List ℕ). start ++ v) (sym e)
 

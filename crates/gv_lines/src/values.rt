@@ -9,7 +9,8 @@ use gv_base::NoMemory;
 use gv_terms::Value;
 use std::alloc::Global;
 
-fn push_word(alloc: Global, out: &mut Vec<u8>, n: u64) -> Result<(), NoMemory>
+// Appends a word in decimal with a space before it.
+pub(crate) fn push_word(alloc: Global, out: &mut Vec<u8>, n: u64) -> Result<(), NoMemory>
     ensures { OnOk result (out.new.items ≡ out.old.items ++ lines.value_text (value.Word n)) }
 {
     let text = format!(in alloc; " {}", n)?;

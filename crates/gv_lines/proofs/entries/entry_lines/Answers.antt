@@ -1,5 +1,5 @@
-use Rattle.std.proofs.Common.{◌≡◌, ℕ, take, ◌∷◌, [], ◌++◌, ◌<◌, List, length, sym, ap, ◌∙◌, arith}
-use Rattle.gv_lines.specs.Lines.{entry_line, entry_lines}
+use Rattle.std.proofs.Common.{ℕ, take, ◌∷◌, [], ◌++◌, ◌<◌, List, length, sym, ap, ◌∙◌, arith}
+use Rattle.gv_lines.specs.Lines.{entry_lines}
 use Rattle.gv_lines.proofs.LineLemmas.{entries_next}
 use Rattle.gv_lines.proofs.entries.entry_lines.Goals as goal
 
