@@ -1,4 +1,5 @@
 pub mod Heard
 pub mod Output
+pub mod Judged
 pub mod Ran
 pub mod Report

@@ -8,9 +8,10 @@ use Rattle.gv_report.specs.declared.cause.Cause.{Cause}
 use Rattle.gv_report.specs.declared.cause.Cause.TheVariants as cause
 use Rattle.gv_report.specs.declared.report.Report.{Report}
 use Rattle.gv_report.specs.declared.report.Report.TheVariants.{Usage, OutOfMemory, CannotRead, Refused, Unjustified, AcceptedWithoutCrash}
-use Rattle.gv_report.specs.declared.report.Report.TheVariants.{Explained, NotExplained, Ran}
+use Rattle.gv_report.specs.declared.report.Report.TheVariants.{Explained, NotExplained, Ran, Moves, NoExplanation, Spent}
 use Rattle.gv_report.specs.declared.bytes.Bytes.{Bytes}
 use Rattle.gv_report.specs.declared.bytes.Bytes.TheVariants.{Fixed, Made}
+use Rattle.gv_report.specs.Judged.{no_explanation_line, spent_line}
 use Rattle.gv_report.specs.Ran.{ran_lines, ran_status}
 
 -- ---- parts of lines
@@ -28,12 +29,15 @@ place_text place = decimal place.line ++ codes ":" ++ decimal place.column
 abbrev pub status_of : Report → ℕ
 status_of AcceptedWithoutCrash = 0
 status_of Explained = 0
+status_of (Moves lines) = 0
 status_of (Unjustified place why) = 1
 status_of (NotExplained at why) = 1
+status_of NoExplanation = 1
 status_of Usage = 2
 status_of (CannotRead name) = 3
 status_of (Refused name place code) = 4
 status_of OutOfMemory = 5
+status_of (Spent most) = 7
 status_of (Ran ran) = ran_status ran
 
 -- the lines without their newlines
@@ -43,12 +47,15 @@ lines_of (Unjustified place why) = (codes "unjustified " ++ place_text place ++ 
 lines_of Explained = codes "explained" ∷ []
 lines_of (NotExplained at why) = (codes "not explained at " ++ decimal at ++ codes " " ++ walk_cause_name why) ∷ []
 lines_of Usage =
-    codes "usage: goosecheck check PKG SPEC SCRIPT, replay PKG SPEC SCHEDULE, explain SPEC HISTORY MOVES, points PKG, gen NUMBER, each with or without json"
+    codes "usage: goosecheck check PKG SPEC SCRIPT, replay PKG SPEC SCHEDULE, explain SPEC HISTORY MOVES, points PKG, gen NUMBER, judge SPEC HISTORY MOST, each with or without json"
     ∷ []
 lines_of (CannotRead name) = (codes "cannot read " ++ name) ∷ []
 lines_of (Refused name place code) = (name ++ codes ":" ++ place_text place ++ codes " " ++ code_name code) ∷ []
 lines_of OutOfMemory = codes "out of memory" ∷ []
 lines_of (Ran ran) = ran_lines ran
+lines_of (Moves lines) = lines
+lines_of NoExplanation = no_explanation_line ∷ []
+lines_of (Spent most) = spent_line most ∷ []
 
 -- ---- its text
 

@@ -6,6 +6,7 @@ mod bytes;
 mod cause;
 mod format;
 mod json_form;
+mod judged;
 mod lines;
 mod output;
 mod pieces;

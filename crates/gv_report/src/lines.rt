@@ -5,6 +5,7 @@ ghost use Rattle.gv_report.specs.Report as spec;
 ghost use Rattle.gv_report.specs.declared.report.Report.{Report as ReportForm};
 
 use crate::cause::Cause;
+use crate::judged::{NO_EXPLANATION, moves_text, spent_text};
 use crate::report::Report;
 use gv_base::{Code, Name, NoMemory, Place};
 use gv_history::WalkCause;
@@ -12,7 +13,7 @@ use std::alloc::Global;
 
 /// The usage line.
 pub const USAGE: &[u8] =
-    b"usage: goosecheck check PKG SPEC SCRIPT, replay PKG SPEC SCHEDULE, explain SPEC HISTORY MOVES, points PKG, gen NUMBER, each with or without json\n";
+    b"usage: goosecheck check PKG SPEC SCRIPT, replay PKG SPEC SCHEDULE, explain SPEC HISTORY MOVES, points PKG, gen NUMBER, judge SPEC HISTORY MOST, each with or without json\n";
 
 /// The line where memory was refused.
 pub const OUT_OF_MEMORY: &[u8] = b"out of memory\n";
@@ -69,5 +70,8 @@ pub fn text(alloc: Global, report: &Report) -> Result<Vec<u8>, NoMemory>
         Report::Refused { name, place, code } => refused(alloc, name, *place, *code),
         Report::OutOfMemory => Ok(Vec::from_slice(alloc, OUT_OF_MEMORY)?),
         Report::Ran(ran) => ran.text(alloc),
+        Report::Moves { lines } => moves_text(alloc, lines),
+        Report::NoExplanation => Ok(Vec::from_slice(alloc, NO_EXPLANATION)?),
+        Report::Spent { most } => spent_text(alloc, *most),
     }
 }

@@ -46,7 +46,7 @@ fn push_line(out: &mut Vec<u8>, line: &[u8]) -> Result<(), NoMemory>
     Ok(())
 }
 
-fn lines_text(alloc: Global, lines: &[Name]) -> Result<Vec<u8>, NoMemory>
+pub(crate) fn lines_text(alloc: Global, lines: &[Name]) -> Result<Vec<u8>, NoMemory>
     ensures { IfOk result (λ text. text.items ≡ joined lines.now) }
 {
     let mut text = Vec::new(alloc);

@@ -5,7 +5,7 @@ ghost use Rattle.gv_report.specs.Report.{status_of};
 
 use crate::cause::Cause;
 use crate::ran::Ran;
-use gv_base::{Code, Name, Place};
+use gv_base::{Code, List, Name, Place};
 use gv_history::WalkCause;
 
 /// The outcome of a command line and its files. This project's own.
@@ -41,20 +41,32 @@ pub enum Report {
     },
     /// The lines of the history that a schedule came to, and the event that was undefined, if one was.
     Ran(Ran),
+    /// The moves that explain a history, a line each.
+    Moves {
+        lines: List<Name>,
+    },
+    /// Nothing explains the history.
+    NoExplanation,
+    /// So many nodes of the search for an explanation are spent, and none of them is one.
+    Spent {
+        most: u64,
+    },
 }
 
 impl Report {
-    /// The status that the program ends with where the report is written, from 0 to 5, or 8.
+    /// The status that the program ends with where the report is written, from 0 to 5, 7 or 8.
     pub fn status(&self) -> u8
         ensures { result ≡ status_of self.now }
     {
         match self {
-            Report::AcceptedWithoutCrash | Report::Explained => 0,
+            Report::AcceptedWithoutCrash | Report::Explained | Report::Moves { .. } => 0,
             Report::Unjustified { .. } | Report::NotExplained { .. } => 1,
+            Report::NoExplanation => 1,
             Report::Usage => 2,
             Report::CannotRead { .. } => 3,
             Report::Refused { .. } => 4,
             Report::OutOfMemory => 5,
+            Report::Spent { .. } => 7,
             Report::Ran(ran) => ran.status(),
         }
     }

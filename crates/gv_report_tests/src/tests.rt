@@ -75,7 +75,7 @@ fn tells_each_report(rt: HostRuntime) -> Result<(), Fail> {
         alloc,
         Report::Usage,
         2,
-        b"usage: goosecheck check PKG SPEC SCRIPT, replay PKG SPEC SCHEDULE, explain SPEC HISTORY MOVES, points PKG, gen NUMBER, each with or without json\n",
+        b"usage: goosecheck check PKG SPEC SCRIPT, replay PKG SPEC SCHEDULE, explain SPEC HISTORY MOVES, points PKG, gen NUMBER, judge SPEC HISTORY MOST, each with or without json\n",
     )
 }
 
@@ -113,6 +113,28 @@ fn tells_runs(rt: HostRuntime) -> Result<(), Fail> {
         undefined: None,
     };
     tells(&rt, alloc, Report::Ran(nothing), 0, b"end\n")
+}
+
+// Moves that explain a history, moves of none, nothing that explains one, and nodes that are spent.
+#[test]
+fn tells_judgements(rt: HostRuntime) -> Result<(), Fail> {
+    let alloc = rt.alloc();
+    let lines = List::from_vec(vec![in alloc;
+        Name::from_slice(alloc, b"boot 1")?,
+        Name::from_slice(alloc, b"act 7 0 2")?,
+    ]?);
+    tells(
+        &rt,
+        alloc,
+        Report::Moves { lines },
+        0,
+        b"boot 1\nact 7 0 2\n",
+    )?;
+    let lines = List::new(alloc);
+    tells(&rt, alloc, Report::Moves { lines }, 0, b"")?;
+    tells(&rt, alloc, Report::NoExplanation, 1, b"no explanation\n")?;
+    let spent = Report::Spent { most: 10_000_000 };
+    tells(&rt, alloc, spent, 7, b"spent 10000000\n")
 }
 
 // A sink with room for eight bytes, and one whose first put fails.

@@ -85,7 +85,7 @@ module _ (s t : Spec) (alike : AreAlike s t) where
       shown_names ts [] = refl
       shown_names ts (f ∷ fs) = ap (λ (ns : List (List ℕ)). f.name ∷ ns) (shown_names ts fs)
 
-  bound_same : (values : List Value) → fields_bound s.fields values ≡ fields_bound t.fields values
+  pub bound_same : (values : List Value) → fields_bound s.fields values ≡ fields_bound t.fields values
   bound_same values = ap (λ (ns : List (List ℕ)). bound ns values) names_same
 
   first_same : first_fields s ≡ first_fields t
@@ -107,10 +107,10 @@ module _ (s t : Spec) (alike : AreAlike s t) where
     op_allows_same : (args : List Value) → op_allows s o args ≡ op_allows t p args
     op_allows_same args = ap (λ (x : ShownOp). truth_of (value_under (binds (args_bound x.params args)) x.allowed)) same
 
-    before_same : (args fields : List Value) → op_before s o args fields ≡ op_before t p args fields
+    pub before_same : (args fields : List Value) → op_before s o args fields ≡ op_before t p args fields
     before_same args fields = ap (λ (bs : List Binding). bs ++ args_bound o.params args) (bound_same fields) ∙ ap (λ (vs : List Var). fields_bound t.fields fields ++ args_bound vs args) params_same
 
-    picks_are : map (shown_pick s.store) o.picks ≡ map (shown_pick t.store) p.picks
+    pub picks_are : map (shown_pick s.store) o.picks ≡ map (shown_pick t.store) p.picks
     picks_are = ap (λ (x : ShownOp). x.picks) same
 
     op_chooses_same : (args : List Value) (choices : List ℕ) (fields : List Value) → op_chooses s o args choices fields ≡ op_chooses t p args choices fields

@@ -2,7 +2,6 @@
 use Rattle.std.proofs.Common.{◌≡◌, ℕ, List, [], ◌∷◌, ◌++◌, Option, Some, None, option_map, map, take, refl, sym, ap, subst, ◌∙◌}
 use Rattle.std.specs.Prelude.{All, IsTrue, Result, Ok, Err, codes}
 use Rattle.std.specs.Fmt.{decimal}
-use Rattle.gv_base.specs.declared.answer.Answer.{Answer}
 use Rattle.gv_base.specs.declared.answers.Code.{Code}
 use Rattle.gv_base.specs.declared.answers.Place.{Place}
 use Rattle.gv_base.specs.declared.reason.Reason.{Reason}
@@ -39,8 +38,8 @@ use Rattle.gv_replay.specs.Plans.{told_call, event_in, arity_in, size_of, room, 
 use Rattle.gv_replay.specs.Reading.{Tells, IsRefused, TellsSchedule, IsRefusedSchedule}
 use Rattle.gv_replay.specs.Results.{and_then, map_ok}
 use Rattle.gv_played.specs.declared.replaying.Ran as played
-use Rattle.gv_played.specs.Played.{events_of, run, outcome, IsUndefinedAt, IsUndefined, IsRan, IsTooMany}
-use Rattle.gv_lines.specs.Lines.{name_in, op_name, values_text, entry_line, entry_lines}
+use Rattle.gv_played.specs.Played.{events_of, run, outcome, IsUndefined, IsRan, IsTooMany}
+use Rattle.gv_lines.specs.Lines.{name_in, values_text, entry_line, entry_lines}
 use Rattle.gv_report.specs.declared.ran.Ran.{Ran}
 use Rattle.gv_smallprogram.specs.Program.{program_of}
 use Rattle.gv_top.specs.declared.files.Halt.{Halt}
@@ -174,7 +173,7 @@ module _ (s t : Spec) (alike : AreAlike s t) where
 
   -- ---- lines
 
-  line_same : (e : Entry) → entry_line s e ≡ entry_line t e
+  pub line_same : (e : Entry) → entry_line s e ≡ entry_line t e
   line_same (entry.Call number op args) =
       ap (λ (n : List ℕ). codes "call " ++ decimal number ++ codes " " ++ n ++ values_text args)
       (name_same s.store t.store _ _ (ops_at s t alike op))

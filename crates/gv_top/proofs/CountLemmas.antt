@@ -13,18 +13,21 @@ use Rattle.gv_lex.specs.declared.form.Form.{Form}
 use Rattle.gv_lex.specs.Layout.{kind_of, token_for, laid}
 use Rattle.gv_lex.specs.Reading as lex
 use Rattle.gv_atomic.specs.declared.spec.Spec.{Spec}
+use Rattle.gv_spec.specs.declared.entry.Entry.{Entry}
 use Rattle.gv_spec.specs.declared.explanation.Move.{Move}
+use Rattle.gv_spec.specs.declared.explanation.Move.TheVariants as move
 use Rattle.gv_replay.specs.declared.line.Line.{Line}
 use Rattle.gv_replay.specs.declared.line.TextKind.{TextKind}
 use Rattle.gv_replay.specs.declared.sight.Sight.{Sight}
 use Rattle.gv_replay.specs.Meaning.{move_in, listed, with_move, with_moves}
-use Rattle.gv_replay.specs.Reading.{TellsMoves}
+use Rattle.gv_replay.specs.declared.line.TextKind.TheVariants as text_kind
+use Rattle.gv_replay.specs.Reading.{Tells, entries_in}
 use Rattle.gv_replay.specs.Sights.{sights_from, sights_of}
 use Rattle.gv_replay.specs.Spelling.{IsLine, a_call, a_start, an_answer, a_reply, an_act, a_crash, a_boot, a_choosing_boot, an_end, a_step, steps, a_fail, a_grow, AreLines, no_line, line_and}
 use Rattle.gv_replay.specs.Told.{tell, tell_all}
 use Rattle.gv_replay.proofs.OfSpecLemmas.{then_case, map_case}
 use Rattle.gv_top.specs.Files.{Source, Reads}
-use Rattle.gv_top.specs.Forms.{moves_of}
+use Rattle.gv_top.specs.Forms.{histories_of, moves_of}
 
 -- ---- tokens
 
@@ -95,11 +98,27 @@ few_told s (l ∷ ls) r n told h e = let more = few_told s ls (tell (with_moves 
         (λ u u_is k. map_case (with_move u) (move_in s l) t k
         (λ m m_is same. let added : length (u ++ listed m) ≡ length t = ap length same in omega (arith, h u u_is, added, length-append u (listed m), one_move m)))
 
-few_moves : (s : Spec) (text : List ℕ) (moves : List Move) → TellsMoves s text moves → length moves ≤ length text
-few_moves s text moves t =
+few_moves : (s : Spec) (kind : TextKind) (text : List ℕ) (moves : List Move) → Tells (with_moves s) [] kind text moves → length moves ≤ length text
+few_moves s kind text moves t =
     let told = few_told s t.lines (Ok []) 0 moves (λ u u_is. let same : [] ≡ u = cc in subst (λ (ms : List Move). length ms ≤ 0) same (omega arith)) t.told in
     omega (arith, told, few_lines _ (sights_of text t.tokens) t.lines t.spelled, as_many text 0 t.tokens, few_tokens text t.tokens t.read)
 
 -- so those of a file can be numbered
 pub numbered : (source : Source) (s : Spec) (name : List ℕ) (moves : Vec Move Global) → Reads source (moves_of s) name moves → length moves.items < 2 ^ 32 - 1
-numbered source s name moves r = let few = few_moves s r.bytes moves.items r.spelled.0 in omega (arith, few, r.fits)
+numbered source s name moves r = let few = few_moves s text_kind.Moves r.bytes moves.items r.spelled.0 in omega (arith, few, r.fits)
+
+-- ---- histories
+
+few_entries : (moves : List Move) → length (entries_in moves) ≤ length moves
+few_entries [] = omega arith
+few_entries (move.Act n choices ∷ moves) = let few = few_entries moves in omega (arith, few)
+few_entries (move.Boot choices ∷ moves) = let few = few_entries moves in omega (arith, few)
+few_entries (move.Other e ∷ moves) = let few = few_entries moves in omega (arith, few)
+
+-- a history that is read has few enough entries for a search
+pub searched : (source : Source) (s : Spec) (name : List ℕ) (history : Vec Entry Global) → Reads source (histories_of s) name history → length history.items < 2 ^ 31 - 1
+searched source s name history r =
+    let told = r.spelled.0 in
+    let shown : length history.items ≡ length (entries_in told.moves) = ap length told.entries in
+    let few = few_moves s text_kind.History r.bytes told.moves told.told in
+    omega (arith, shown, few_entries told.moves, few, r.fits)

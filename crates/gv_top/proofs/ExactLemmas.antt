@@ -9,13 +9,15 @@ use Rattle.gv_top.specs.declared.files.Halt.TheVariants.{NoMemory}
 use Rattle.gv_top.specs.Check.{report_of as check_report}
 use Rattle.gv_top.specs.Explain.{report_of as explain_report}
 use Rattle.gv_top.specs.Replay.{report_of as replay_report}
-use Rattle.gv_top.specs.Commands.{Command, check, explain, replay, Comes, reported}
+use Rattle.gv_top.specs.Judge.{report_of as judge_report}
+use Rattle.gv_top.specs.Commands.{Command, check, explain, replay, judge, Comes, reported}
 use Rattle.gv_top.specs.Files.{Asked, IsBlamed, outside, as_told}
 use Rattle.gv_top.specs.Run.{Gives, usage, done, Deserves, Defines, IsBlamedIn, OnlyAbsentFailed, NoPutFailed, IsTold}
 use Rattle.gv_top.proofs.CheckExact.{checks_same}
 use Rattle.gv_top.proofs.CommandLemmas.{one_command}
 use Rattle.gv_top.proofs.ExplainExact.{explains_same}
-use Rattle.gv_top.proofs.OutcomeLemmas.{IsOwn, check_own, explain_own, replay_own, blamed_by}
+use Rattle.gv_top.proofs.JudgeExact.{judges_same}
+use Rattle.gv_top.proofs.OutcomeLemmas.{IsOwn, check_own, explain_own, replay_own, judge_own, blamed_by}
 use Rattle.gv_top.proofs.ReplayExact.{replays_same}
 use Rattle.gv_top.proofs.StageLemmas.{Same}
 
@@ -38,6 +40,8 @@ module _ (words : List (List ℕ)) (a : Asked) (absent : OnlyAbsentFailed a) whe
       by_outcome explain_report explain_own a o e r q is other_is b n (λ blamed never. explains_same a.held a refl absent o e blamed never s h m comes others)
   comes_same (replay p s c) r q (o, comes, is) b (e, others, other_is) n =
       by_outcome replay_report replay_own a o e r q is other_is b n (λ blamed never. replays_same a.held a refl absent o e blamed never p s c comes others)
+  comes_same (judge s h m) r q (o, comes, is) b (e, others, other_is) n =
+      by_outcome judge_report judge_own a o e r q is other_is b n (λ blamed never. judges_same a.held a refl absent o e blamed never s h m comes others)
 
   report_is : (r q : Report) → Deserves words a r → Defines words a.held q → q ≢ OutOfMemory → (r ≡ q) ⊎ (r ≡ OutOfMemory)
   report_is r q d e n = go r q d.given d.blamed e n

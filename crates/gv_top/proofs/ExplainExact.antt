@@ -46,7 +46,7 @@ pub specs_exact : IsExact written_specs
 specs_exact = placed_exact written.Spells written.IsRefused (λ text s at code h r. specs.only_so text (Err (refusal.At (place_at text at) code)) (at, refl, r) s h)
     (λ text m n c d h k. specs.fault_so text (Err (refusal.At (place_at text m) c)) tt (m, refl, h) n d k)
 
-histories_exact : (s : Spec) → IsExact (histories_of s)
+pub histories_exact : (s : Spec) → IsExact (histories_of s)
 histories_exact s = placed_exact (IsHistoryOf s) (IsRefusedHistory s) (λ text v at code h r. not_both (with_moves s) [] text_kind.History text h.0.moves at code h.0.told r)
     (λ text m n c d h k. let same = one_refusal (with_moves s) [] text_kind.History text m n c d h k in (ap (place_at text) same.0, same.1))
 
@@ -54,7 +54,7 @@ moves_exact : (s : Spec) → IsExact (moves_of s)
 moves_exact s = placed_exact (AreMovesOf s) (AreRefusedMoves s) (λ text v at code h r. not_both (with_moves s) [] text_kind.Moves text v.items at code h.0 r)
     (λ text m n c d h k. let same = one_refusal (with_moves s) [] text_kind.Moves text m n c d h k in (ap (place_at text) same.0, same.1))
 
-one_history : (s : Spec) (text : List ℕ) (x y : Vec Entry Global) → IsHistoryOf s text x → IsHistoryOf s text y → x.items ≡ y.items
+pub one_history : (s : Spec) (text : List ℕ) (x y : Vec Entry Global) → IsHistoryOf s text x → IsHistoryOf s text y → x.items ≡ y.items
 one_history s text x y h k =
     h.0.entries ∙ ap entries_in (one_account (with_moves s) [] text_kind.History text h.0.moves k.0.moves h.0.told k.0.told) ∙ sym k.0.entries
 
@@ -134,7 +134,7 @@ module _ (s t : Spec) (alike : AreAlike s t) where
   abbrev Meant : Type 0
   Meant = Specification (List Value) Value
 
-  explained_by : (history : List Entry) (moves : List Move) → IsExplanation s moves history → IsExplanation t moves history
+  pub explained_by : (history : List Entry) (moves : List Move) → IsExplanation s moves history → IsExplanation t moves history
   explained_by history moves h = subst (λ (a : Meant). walks.Explains a (map move_of moves) (map entry_of history)) (atomic_same s t alike) h
 
   unexplained_by : (history : List Entry) (moves : List Move) → (IsExplanation s moves history → ⊥) → IsExplanation t moves history → ⊥
@@ -188,7 +188,7 @@ module _ (held : List ℕ → Told) (a : Asked) (held_as : a.held ≡ held) (abs
       (λ text x y e f more rest. history_stage h m y (first_by (outside held) h m x y o (one_specification text x y e f) more) rest)
 
 -- a refusal is of one of the three files
-no_finish : {O : Type 0} (Outcome : O → Type 0) (name : List ℕ) (place : Place) (code : Code) (o : Result O Halt) → o ≡ Err (Refused name place code) → Finishes Outcome o → ⊥
+pub no_finish : {O : Type 0} (Outcome : O → Type 0) (name : List ℕ) (place : Place) (code : Code) (o : Result O Halt) → o ≡ Err (Refused name place code) → Finishes Outcome o → ⊥
 no_finish Outcome name place code (Ok v) e c = cc
 no_finish Outcome name place code (Err NoMemory) e c = cc
 no_finish Outcome name place code (Err (CannotRead m)) e c = c

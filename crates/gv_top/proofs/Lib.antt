@@ -1,5 +1,6 @@
 pub mod AlikeLines
 pub mod AlikeMeaning
+pub mod AlikeNodes
 pub mod AlikeSchedules
 pub mod CheckExact
 pub mod CheckLemmas
@@ -11,8 +12,11 @@ pub mod ExactLemmas
 pub mod ExplainExact
 pub mod FilesLemmas
 pub mod FormLemmas
+pub mod JudgeExact
+pub mod JudgeLemmas
 pub mod LawLemmas
 pub mod LinesLemmas
+pub mod MostLemmas
 pub mod OutcomeLemmas
 pub mod PackageForm
 pub mod ReplayExact

@@ -15,6 +15,9 @@ use Rattle.gv_top.specs.Check.{report_of as check_report}
 use Rattle.gv_top.specs.Explain.{report_of as explain_report}
 use Rattle.gv_report.specs.declared.ran.Ran.{Ran}
 use Rattle.gv_top.specs.Replay.{report_of as replay_report}
+use Rattle.gv_top.specs.declared.judge.Judgement.{Judgement}
+use Rattle.gv_top.specs.declared.judge.Judgement.TheVariants as judgement
+use Rattle.gv_top.specs.Judge.{report_of as judge_report}
 use Rattle.gv_top.specs.Commands.{reported}
 use Rattle.gv_top.specs.Files.{Asked, Source, Form, Reads, HaltsAt, Then, IsBlamed, NoneFailed}
 use Rattle.gv_top.specs.Run.{IsBlamedIn}
@@ -27,6 +30,9 @@ IsOwn (report.Unjustified place why) = Unit {0}
 IsOwn report.Explained = Unit {0}
 IsOwn (report.NotExplained at why) = Unit {0}
 IsOwn (report.Ran ran) = Unit {0}
+IsOwn (report.Moves lines) = Unit {0}
+IsOwn report.NoExplanation = Unit {0}
+IsOwn (report.Spent most) = Unit {0}
 IsOwn report.Usage = ⊥
 IsOwn report.OutOfMemory = ⊥
 IsOwn (report.CannotRead name) = ⊥
@@ -38,6 +44,9 @@ own_blamed a (report.Unjustified place why) o h = h
 own_blamed a report.Explained o h = h
 own_blamed a (report.NotExplained at why) o h = h
 own_blamed a (report.Ran ran) o h = h
+own_blamed a (report.Moves lines) o h = h
+own_blamed a report.NoExplanation o h = h
+own_blamed a (report.Spent most) o h = h
 own_blamed a report.Usage o h = absurd o
 own_blamed a report.OutOfMemory o h = absurd o
 own_blamed a (report.CannotRead name) o h = absurd o
@@ -49,6 +58,9 @@ blamed_own a (report.Unjustified place why) o h = h
 blamed_own a report.Explained o h = h
 blamed_own a (report.NotExplained at why) o h = h
 blamed_own a (report.Ran ran) o h = h
+blamed_own a (report.Moves lines) o h = h
+blamed_own a report.NoExplanation o h = h
+blamed_own a (report.Spent most) o h = h
 blamed_own a report.Usage o h = absurd o
 blamed_own a report.OutOfMemory o h = absurd o
 blamed_own a (report.CannotRead name) o h = absurd o
@@ -64,6 +76,11 @@ explain_own (NotExplained at why) = tt
 
 pub replay_own : (ran : Ran) → IsOwn (replay_report ran)
 replay_own ran = tt
+
+pub judge_own : (j : Judgement) → IsOwn (judge_report j)
+judge_own (judgement.Explained lines) = tt
+judge_own judgement.Unexplained = tt
+judge_own (judgement.Spent most) = tt
 
 -- ---- outcomes of any command
 
@@ -154,6 +171,67 @@ replay_came (Err (CannotRead n)) (inl e) next = absurd (omega (arith, e))
 replay_came (Err (CannotRead n)) (inr e) next = absurd (omega (arith, e))
 replay_came (Err (Refused n q d)) (inl e) next = absurd (omega (arith, e))
 replay_came (Err (Refused n q d)) (inr e) next = absurd (omega (arith, e))
+
+-- ---- judgements
+
+pub judge_never_accepts : (o : Result Judgement Halt) → report.AcceptedWithoutCrash ≡ reported judge_report o → ⊥
+judge_never_accepts (Ok (judgement.Explained lines)) e = cc
+judge_never_accepts (Ok judgement.Unexplained) e = cc
+judge_never_accepts (Ok (judgement.Spent most)) e = cc
+judge_never_accepts (Err NoMemory) e = cc
+judge_never_accepts (Err (CannotRead name)) e = cc
+judge_never_accepts (Err (Refused name place code)) e = cc
+
+pub judge_never_ran : (o : Result Judgement Halt) (ran : Ran) → report.Ran ran ≡ reported judge_report o → ⊥
+judge_never_ran (Ok (judgement.Explained lines)) ran e = cc
+judge_never_ran (Ok judgement.Unexplained) ran e = cc
+judge_never_ran (Ok (judgement.Spent most)) ran e = cc
+judge_never_ran (Err NoMemory) ran e = cc
+judge_never_ran (Err (CannotRead name)) ran e = cc
+judge_never_ran (Err (Refused name place code)) ran e = cc
+
+pub check_never_finds : (o : Result Verdict Halt) (lines : List (List ℕ)) → report.Moves lines ≡ reported check_report o → ⊥
+check_never_finds (Ok (Unjustified place why)) lines e = cc
+check_never_finds (Ok AcceptedWithoutCrash) lines e = cc
+check_never_finds (Err NoMemory) lines e = cc
+check_never_finds (Err (CannotRead name)) lines e = cc
+check_never_finds (Err (Refused name place code)) lines e = cc
+
+pub explain_never_finds : (o : Result Explanation Halt) (lines : List (List ℕ)) → report.Moves lines ≡ reported explain_report o → ⊥
+explain_never_finds (Ok Explained) lines e = cc
+explain_never_finds (Ok (NotExplained at why)) lines e = cc
+explain_never_finds (Err NoMemory) lines e = cc
+explain_never_finds (Err (CannotRead name)) lines e = cc
+explain_never_finds (Err (Refused name place code)) lines e = cc
+
+pub replay_never_finds : (o : Result Ran Halt) (lines : List (List ℕ)) → report.Moves lines ≡ reported replay_report o → ⊥
+replay_never_finds (Ok ran) lines e = cc
+replay_never_finds (Err NoMemory) lines e = cc
+replay_never_finds (Err (CannotRead name)) lines e = cc
+replay_never_finds (Err (Refused name place code)) lines e = cc
+
+pub found_of : (o : Result Judgement Halt) (lines : List (List ℕ)) → report.Moves lines ≡ reported judge_report o → o ≡ Ok (judgement.Explained lines)
+found_of (Ok (judgement.Explained others)) lines e = let same : lines ≡ others = cc in ap (λ ls. Ok (judgement.Explained ls)) (sym same)
+found_of (Ok judgement.Unexplained) lines e = absurd cc
+found_of (Ok (judgement.Spent most)) lines e = absurd cc
+found_of (Err NoMemory) lines e = absurd cc
+found_of (Err (CannotRead name)) lines e = absurd cc
+found_of (Err (Refused name place code)) lines e = absurd cc
+
+abbrev pub IsJudged : ℕ → Type 0
+IsJudged status = (status ≡ 0) ⊎ ((status ≡ 1) ⊎ (status ≡ 7))
+
+never_judged : (status : ℕ) → 2 ≤ status → status ≤ 5 → IsJudged status → ⊥
+never_judged status l m (inl e) = omega (arith, l, e)
+never_judged status l m (inr (inl e)) = omega (arith, l, e)
+never_judged status l m (inr (inr e)) = omega (arith, m, e)
+
+-- the status 0, 1 or 7 is that of a judgement
+pub judge_came : {R : Type 0} (o : Result Judgement Halt) → IsJudged (status_of (reported judge_report o)) → ((j : Judgement) → o ≡ Ok j → R) → R
+judge_came (Ok j) l next = next j refl
+judge_came (Err NoMemory) l next = absurd (never_judged 5 (omega arith) (omega arith) l)
+judge_came (Err (CannotRead n)) l next = absurd (never_judged 3 (omega arith) (omega arith) l)
+judge_came (Err (Refused n q d)) l next = absurd (never_judged 4 (omega arith) (omega arith) l)
 
 -- ---- one file after the other
 

@@ -1,5 +1,5 @@
 -- `replay` comes to one outcome over files that are told.
-use Rattle.std.proofs.Common.{◌≡◌, ℕ, List, [], Result, Ok, Err, refl, sym, ap, subst, ◌∙◌, ◌⊎◌, inl, inr}
+use Rattle.std.proofs.Common.{◌≡◌, ℕ, List, Result, Ok, Err, refl, sym, ap, subst, ◌∙◌, ◌⊎◌, inl, inr}
 use Rattle.gv_base.specs.Outside.{Told}
 use Rattle.gv_base.specs.Places.{place_at}
 use Rattle.gv_base.specs.declared.answers.Code.{Code}
@@ -22,14 +22,14 @@ use Rattle.gv_interfaces.specs.declared.difference.Difference.{Difference}
 use Rattle.gv_interfaces.specs.declared.difference.Difference.TheVariants.{InSpec, InPackage}
 use Rattle.gv_interfaces.specs.Interfaces.{SameOperations}
 use Rattle.gv_interfaces.specs.Places.{IsFirstDifference}
-use Rattle.gv_interfaces.proofs.Decided.{one_difference, none_where_same, same_for_both}
+use Rattle.gv_interfaces.proofs.Decided.{one_difference, none_where_same}
 use Rattle.gv_report.specs.declared.ran.Ran.{Ran}
 use Rattle.gv_top.specs.declared.files.Halt.{Halt}
 use Rattle.gv_top.specs.declared.files.Halt.TheVariants.{NoMemory, CannotRead, Refused}
 use Rattle.gv_top.specs.declared.replay_forms.WrittenPackage.{WrittenPackage}
 use Rattle.gv_top.specs.declared.replay_forms.WrittenSpec.{WrittenSpec}
 use Rattle.gv_top.specs.Files.{Source, Asked, Then, IsBlamed, outside, as_told}
-use Rattle.gv_top.specs.Replay.{StandsIn, IsOther, HaltsBetween, IfSame, IsReplayed, Plays, Replays}
+use Rattle.gv_top.specs.Replay.{StandsIn, HaltsBetween, IfSame, IsReplayed, Plays, Replays}
 use Rattle.gv_top.specs.ReplayForms.{IsWrittenPackage, written_packages, IsWrittenSpec, kept_specs, IsScheduleOf, schedules_of}
 use Rattle.gv_top.specs.Run.{OnlyAbsentFailed}
 use Rattle.gv_top.proofs.AlikeSchedules.{same_schedule, same_refused_schedule, same_events, plays_by}

@@ -1,5 +1,5 @@
 -- What a schedule that is read has, and what a run's text and status tell.
-use Rattle.std.proofs.Common.{◌≡◌, ℕ, ◌+◌, ◌-◌, ◌^◌, ◌<◌, ◌≤◌, length, Bool, true, false, List, [], ◌∷◌, ◌++◌, fold, get_or, map, sum, Option, Some, None, Result, Ok, Err, refl, sym, ap, subst, ◌∙◌, ◌⊎◌, inl, inr, arith}
+use Rattle.std.proofs.Common.{◌≡◌, ℕ, ◌+◌, ◌-◌, ◌^◌, ◌<◌, ◌≤◌, length, Bool, true, false, List, [], ◌∷◌, ◌++◌, get_or, map, sum, Option, Some, None, Result, Ok, Err, refl, sym, ap, subst, ◌∙◌, ◌⊎◌, inl, inr, arith}
 use Rattle.std.specs.List.{sum_by}
 use Rattle.std.specs.Prelude.{◌↔◌, nat_le, if◌then◌else◌}
 use Rattle.std.proofs.lemmas.Bool.{leb-true}
@@ -19,7 +19,7 @@ use Rattle.gv_replay.specs.declared.plan.Plan.{Plan}
 use Rattle.gv_replay.specs.declared.plan.Planned.{Planned}
 use Rattle.gv_replay.specs.declared.schedule.Line as schedules
 use Rattle.gv_replay.specs.declared.schedule.Schedule.{Schedule}
-use Rattle.gv_replay.specs.Plans.{most_events, event_in, arity_in, size_of, room, planned, no_plan, with_plan, placed, lines_placed}
+use Rattle.gv_replay.specs.Plans.{most_events, event_in, arity_in, size_of, planned, no_plan, with_plan, placed}
 use Rattle.gv_replay.specs.Reading.{TellsSchedule}
 use Rattle.gv_replay.specs.Results.{and_then, map_ok}
 use Rattle.gv_replay.specs.Told.{tell, tell_all}
@@ -35,14 +35,14 @@ use Rattle.gv_report.specs.Report.{joined, status_of, text_of}
 use Rattle.gv_top.specs.declared.files.Halt.{Halt}
 use Rattle.gv_top.specs.declared.replay_forms.WrittenPackage.{WrittenPackage}
 use Rattle.gv_top.specs.declared.replay_forms.WrittenSpec.{WrittenSpec}
-use Rattle.gv_top.specs.Commands.{Command, check, explain, replay, Asks, Comes, reported}
+use Rattle.gv_top.specs.Commands.{Command, check, explain, replay, judge, Asks, Comes, reported}
 use Rattle.gv_top.specs.Files.{Asked, Source, Reads, outside}
 use Rattle.gv_top.specs.Forms.{packages, written_specs}
 use Rattle.gv_top.specs.Promise.{ReplayedPromise}
 use Rattle.gv_top.specs.Replay.{IsReplayed, Plays, Replays, report_of as replay_report}
 use Rattle.gv_top.specs.ReplayForms.{written_packages, kept_specs, schedules_of}
 use Rattle.gv_top.specs.Run.{Gives, usage, done, Deserves}
-use Rattle.gv_top.proofs.OutcomeLemmas.{check_never_ran, explain_never_ran, ran_of, replay_came, then_read}
+use Rattle.gv_top.proofs.OutcomeLemmas.{check_never_ran, explain_never_ran, judge_never_ran, ran_of, replay_came, then_read}
 use Rattle.gv_top.proofs.ReplayExact as exact
 
 -- ---- the counts of a schedule
@@ -173,6 +173,7 @@ ran_text words source ran rest given text = by_words (report.Ran ran) refl given
         let came = plays_is source p s c ran o (ran_of o ran (sym e ∙ is)) replays in
         begins_otherwise came.spec.spec came.replayed.history ran.undefined rest
         (ap (λ (ls : List (List ℕ)). joined (ls ++ last_line ran.undefined ∷ [])) (sym came.replayed.lines_are) ∙ text)
+    by_command (judge s h m) r e (o, judges, is) = judge_never_ran o ran (sym e ∙ is)
 
     by_words : (r : Report) → r ≡ report.Ran ran → Gives source words r → ⊥
     by_words r e (usage h) = cc

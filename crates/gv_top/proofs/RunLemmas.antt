@@ -13,7 +13,7 @@ use Rattle.gv_spec.specs.History.{IsExplanation, walked}
 use Rattle.gv_history.specs.declared.fault.WalkCause.{WalkCause}
 use Rattle.gv_history.specs.Fault.{cause_of}
 use Rattle.gv_report.specs.declared.report.Report.{Report}
-use Rattle.gv_report.specs.declared.report.Report.TheVariants.{Usage, OutOfMemory, CannotRead, Refused, Unjustified, AcceptedWithoutCrash, Explained, NotExplained, Ran}
+use Rattle.gv_report.specs.declared.report.Report.TheVariants.{Usage, OutOfMemory, CannotRead, Refused, Unjustified, AcceptedWithoutCrash, Explained, NotExplained, Ran, Moves, NoExplanation, Spent}
 use Rattle.gv_report.specs.Report.{status_of, text_of, IsAnswerTo}
 use Rattle.gv_base.specs.declared.reason.Reason.{Reason}
 use Rattle.gv_report.specs.Ran.{status_after}
@@ -29,7 +29,8 @@ use Rattle.gv_top.specs.Check.{Checks, Compares, report_of as check_report}
 use Rattle.gv_top.specs.Explain as explaining
 use Rattle.gv_top.specs.Explain.{Explains, report_of as explain_report}
 use Rattle.gv_top.specs.Replay.{report_of as replay_report}
-use Rattle.gv_top.specs.Commands.{Command, check, explain, replay, Asks, IsNoCommand, Comes, reported}
+use Rattle.gv_top.specs.Judge.{report_of as judge_report}
+use Rattle.gv_top.specs.Commands.{Command, check, explain, replay, judge, Asks, IsNoCommand, Comes, reported}
 use Rattle.gv_top.specs.Files.{Asked, Source, Reads, Ends, Finishes, outside}
 use Rattle.gv_top.specs.Forms.{packages, specs_for, scripts_for, written_specs, histories_of, moves_of}
 use Rattle.gv_top.specs.Promise.{AcceptedPromise, ExplainedPromise}
@@ -37,7 +38,7 @@ use Rattle.gv_top.specs.Run.{Gives, usage, done, Deserves, Answers, IsCutOff}
 use Rattle.gv_top.proofs.CheckExact as checking
 use Rattle.gv_top.proofs.CommandLemmas.{one_command}
 use Rattle.gv_top.proofs.ExplainExact as explanations
-use Rattle.gv_top.proofs.OutcomeLemmas.{check_own, explain_own, replay_own, never_usage, came, accepted_of, explained_never_accepts, replay_never_accepts, then_read}
+use Rattle.gv_top.proofs.OutcomeLemmas.{check_own, explain_own, replay_own, judge_own, never_usage, came, accepted_of, explained_never_accepts, replay_never_accepts, judge_never_accepts, then_read}
 
 -- ---- acceptance
 
@@ -82,6 +83,7 @@ comes_accepting : (words : List (List ℕ)) (held : List ℕ → Told) (c : Comm
 comes_accepting words held (check p s t) r e asks (o, checks, is) = accepting words held p s t asks o (accepted_of o (sym e ∙ is)) checks
 comes_accepting words held (explain s h m) r e asks (o, explains, is) = absurd (explained_never_accepts o (sym e ∙ is))
 comes_accepting words held (replay p s c) r e asks (o, replays, is) = absurd (replay_never_accepts o (sym e ∙ is))
+comes_accepting words held (judge s h m) r e asks (o, judges, is) = absurd (judge_never_accepts o (sym e ∙ is))
 
 pub promised : (words : List (List ℕ)) (a : Asked) (r : Report) → r ≡ AcceptedWithoutCrash → Deserves words a r → AcceptedPromise words a.held
 promised words a r e d = go r e d.given
@@ -154,6 +156,7 @@ memory_free : (source : Source) (c : Command) → Comes source c OutOfMemory
 memory_free source (check p s t) = (Err halt.NoMemory, inl (halt.NoMemory, refl, tt), refl)
 memory_free source (explain s h m) = (Err halt.NoMemory, inl (halt.NoMemory, refl, tt), refl)
 memory_free source (replay p s c) = (Err halt.NoMemory, inl (halt.NoMemory, refl, tt), refl)
+memory_free source (judge s h m) = (Err halt.NoMemory, inl (halt.NoMemory, refl, tt), refl)
 
 memory_given : (source : Source) (words : List (List ℕ)) (r : Report) → r ≢ Usage → Gives source words r → Gives source words OutOfMemory
 memory_given source words r n (usage h) = absurd (n refl)
@@ -173,6 +176,7 @@ comes_usage : (source : Source) (c : Command) (r : Report) → r ≡ Usage → C
 comes_usage source (check p s t) r e (o, checks, is) = never_usage check_report check_own o (sym e ∙ is)
 comes_usage source (explain s h m) r e (o, explains, is) = never_usage explain_report explain_own o (sym e ∙ is)
 comes_usage source (replay p s c) r e (o, replays, is) = never_usage replay_report replay_own o (sym e ∙ is)
+comes_usage source (judge s h m) r e (o, judges, is) = never_usage judge_report judge_own o (sym e ∙ is)
 
 only_usage : (words : List (List ℕ)) (source : Source) (r : Report) → r ≡ Usage → Gives source words r → IsNoCommand words
 only_usage words source r e (usage h) = h
@@ -180,11 +184,15 @@ only_usage words source r e (done c asks comes) = absurd (comes_usage source c r
 
 -- ---- statuses
 
-ran_known : (undefined : Option (ℕ × Reason)) → (status_after undefined ≤ 5) ⊎ (status_after undefined ≡ 8)
-ran_known None = inl (omega arith)
-ran_known (Some found) = inr refl
+-- up to 5, or 7 or 8
+abbrev IsAboutSix : ℕ → Type 0
+IsAboutSix status = (status ≤ 5) ⊎ ((7 ≤ status) × (status ≤ 8))
 
-status_known : (r : Report) → (status_of r ≤ 5) ⊎ (status_of r ≡ 8)
+ran_known : (undefined : Option (ℕ × Reason)) → IsAboutSix (status_after undefined)
+ran_known None = inl (omega arith)
+ran_known (Some found) = inr (omega arith, omega arith)
+
+status_known : (r : Report) → IsAboutSix (status_of r)
 status_known AcceptedWithoutCrash = inl (omega arith)
 status_known (Unjustified place why) = inl (omega arith)
 status_known Explained = inl (omega arith)
@@ -194,12 +202,15 @@ status_known (CannotRead name) = inl (omega arith)
 status_known (Refused name place code) = inl (omega arith)
 status_known OutOfMemory = inl (omega arith)
 status_known (Ran ran) = ran_known ran.undefined
+status_known (Moves lines) = inl (omega arith)
+status_known NoExplanation = inl (omega arith)
+status_known (Spent most) = inr (omega arith, omega arith)
 
 never_six : (r : Report) → status_of r ≡ 6 → ⊥
 never_six r e =
     elim (status_known r) [
       | inl few ↦ omega (arith, e, few)
-      | inr eight ↦ omega (arith, e, eight)
+      | inr more ↦ (let least = more.0 in omega (arith, e, least))
     ]
 
 ran_never_two : (undefined : Option (ℕ × Reason)) → status_after undefined ≡ 2 → ⊥
@@ -216,6 +227,9 @@ is_usage (CannotRead name) e = absurd (omega (arith, e))
 is_usage (Refused name place code) e = absurd (omega (arith, e))
 is_usage OutOfMemory e = absurd (omega (arith, e))
 is_usage (Ran ran) e = absurd (ran_never_two ran.undefined e)
+is_usage (Moves lines) e = absurd (omega (arith, e))
+is_usage NoExplanation e = absurd (omega (arith, e))
+is_usage (Spent most) e = absurd (omega (arith, e))
 
 module _ (words : List (List ℕ)) (a : Asked) (h : Heard) (r : Report) (d : Deserves words a r) where
   pub told : (status : ℕ) → Tells r h status → status ≢ 6 → (q : Report) × (status_of q ≡ status) × Answers words a h q
@@ -234,13 +248,13 @@ module _ (words : List (List ℕ)) (a : Asked) (h : Heard) (r : Report) (d : Des
   always_cut_off status (whole w f) l = absurd (omega (arith, f, l))
   always_cut_off status (cut o w) l = refl
 
-  pub known : (status : ℕ) → Tells r h status → (status ≤ 6) ⊎ (status ≡ 8)
+  pub known : (status : ℕ) → Tells r h status → status ≤ 8
   known status (whole w f) =
       elim (status_known r) [
-        | inl few ↦ inl (omega (arith, few))
-        | inr eight ↦ inr eight
+        | inl few ↦ omega (arith, few)
+        | inr more ↦ more.1
       ]
-  known status (cut o w) = inl (omega arith)
+  known status (cut o w) = omega arith
 
   pub usage_only : (status : ℕ) → Tells r h status → status ≡ 2 → IsNoCommand words
   usage_only status (whole w f) e = only_usage words (outside a.held) r (is_usage r e) d.given

@@ -9,11 +9,12 @@ use Rattle.gv_base.specs.declared.answers.Code.{Code}
 use Rattle.gv_base.specs.declared.answers.Place.{Place}
 use Rattle.gv_small.proofs.Cuts.{both}
 use Rattle.gv_report.specs.declared.report.Report.{Report}
-use Rattle.gv_report.specs.declared.report.Report.TheVariants.{Usage, OutOfMemory, CannotRead, Refused, Unjustified, AcceptedWithoutCrash, Explained, NotExplained, Ran}
+use Rattle.gv_report.specs.declared.report.Report.TheVariants.{Usage, OutOfMemory, CannotRead, Refused, Unjustified, AcceptedWithoutCrash, Explained, NotExplained, Ran, Moves, NoExplanation, Spent}
 use Rattle.gv_report.specs.Report.{text_of, place_text}
 use Rattle.gv_report.specs.Heard.{Heard, Tells, whole, cut}
 use Rattle.gv_top.specs.Check.{report_of as check_report}
-use Rattle.gv_top.specs.Commands.{Command, check, explain, replay, Asks, Comes, files_of}
+use Rattle.gv_top.specs.Judge.{report_of as judge_report}
+use Rattle.gv_top.specs.Commands.{Command, check, explain, replay, judge, Asks, Comes, files_of}
 use Rattle.gv_top.specs.Explain.{report_of as explain_report}
 use Rattle.gv_top.specs.Replay.{report_of as replay_report}
 use Rattle.gv_top.specs.Files.{Asked, Source, outside}
@@ -21,7 +22,9 @@ use Rattle.gv_top.specs.Promise.{IsOneLine, IsAccepted, ended, written, Accepted
 use Rattle.gv_top.specs.Run.{Gives, usage, done, Deserves}
 use Rattle.gv_top.proofs.CheckExact.{check_refused}
 use Rattle.gv_top.proofs.ExplainExact.{explain_refused}
-use Rattle.gv_top.proofs.OutcomeLemmas.{check_own, explain_own, replay_own, refused_of}
+use Rattle.gv_top.proofs.JudgeExact.{judge_refused}
+use Rattle.gv_top.proofs.JudgeLemmas.{moves_text}
+use Rattle.gv_top.proofs.OutcomeLemmas.{check_own, explain_own, replay_own, judge_own, refused_of}
 use Rattle.gv_top.proofs.ReplayExact.{replay_refused}
 use Rattle.gv_top.proofs.ReplayLemmas.{ran_text}
 use Rattle.gv_top.proofs.RunLemmas.{promised, ended_accepting}
@@ -73,6 +76,10 @@ module _ (words : List (List ℕ)) (lines : (command : Command) → Asks words c
   name_line p s t name (inr (inl e)) h = subst IsOneLine (sym e) (h 1 s (omega arith))
   name_line p s t name (inr (inr e)) h = subst IsOneLine (sym e) (h 2 t (omega arith))
 
+  line_of_two : (s h name : List ℕ) → (name ≡ s) ⊎ (name ≡ h) → All IsOneLine (s ∷ h ∷ []) → IsOneLine name
+  line_of_two s h name (inl e) all = subst IsOneLine (sym e) (all 0 s (omega arith))
+  line_of_two s h name (inr e) all = subst IsOneLine (sym e) (all 1 h (omega arith))
+
   -- the name in a refusal is a file's, so it is one line
   refused_line : (source : Source) (name : List ℕ) (place : Place) (code : Code) (c : Command) (r : Report) → r ≡ Refused name place code → Asks words c → Comes source c r → IsOneLine name
   refused_line source name place code (check p s t) r e asks (o, checks, is) =
@@ -81,6 +88,8 @@ module _ (words : List (List ℕ)) (lines : (command : Command) → Asks words c
       name_line s h m name (explain_refused source s h m name place code o (refused_of explain_report explain_own name place code o (sym e ∙ is)) explains) (lines (explain s h m) asks)
   refused_line source name place code (replay p s c) r e asks (o, replays, is) =
       name_line p s c name (replay_refused source p s c name place code o (refused_of replay_report replay_own name place code o (sym e ∙ is)) replays) (lines (replay p s c) asks)
+  refused_line source name place code (judge s h m) r e asks (o, judges, is) =
+      line_of_two s h name (judge_refused source s h m name place code o (refused_of judge_report judge_own name place code o (sym e ∙ is)) judges) (lines (judge s h m) asks)
 
   refusal : (source : Source) (name : List ℕ) (place : Place) (code : Code) (r : Report) (rest : List ℕ) → r ≡ Refused name place code → Gives source words r → text_of (Refused name place code) ≡ text_of AcceptedWithoutCrash ++ rest → ⊥
   refusal source name place code r rest e (usage h) f = absurd cc
@@ -101,6 +110,9 @@ module _ (words : List (List ℕ)) (lines : (command : Command) → Asks words c
   accepted_text a (Refused name place code) rest d e = absurd (refusal (outside a.held) name place code (Refused name place code) rest refl d e)
   accepted_text a OutOfMemory rest d e = let h : 111 ≡ 97 = heads (text_of OutOfMemory) (text_of AcceptedWithoutCrash ++ rest) e in absurd (omega (arith, h))
   accepted_text a (Ran ran) rest d e = absurd (ran_text words (outside a.held) ran rest d e)
+  accepted_text a (Moves moves) rest d e = absurd (moves_text words (outside a.held) moves rest d e)
+  accepted_text a NoExplanation rest d e = let h : 110 ≡ 97 = heads (text_of NoExplanation) (text_of AcceptedWithoutCrash ++ rest) e in absurd (omega (arith, h))
+  accepted_text a (Spent most) rest d e = let h : 115 ≡ 97 = heads (text_of (Spent most)) (text_of AcceptedWithoutCrash ++ rest) e in absurd (omega (arith, h))
 
   -- what was appended is what is there now
   appended_is : (o : Option (List ℕ)) (old text more : List ℕ) (now : Option (List ℕ)) → o ≡ Some old → Appended o text now → now ≡ Some (old ++ more) → text ≡ more

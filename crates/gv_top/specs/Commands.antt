@@ -1,5 +1,6 @@
 -- The table of commands: their words, their files, and what is answered.
 use Rattle.std.specs.Prelude.{◌≡◌, ℕ, Bool, false, List, [], ◌∷◌, map, Result, Ok, Err, codes, string_bytes}
+use Rattle.std.specs.Fmt.{decimal}
 use Rattle.std.specs.Str.{bytes_eq}
 use Rattle.std.specs.declared.string.String.{String}
 use Rattle.std.specs.declared.alloc.Global.{Global}
@@ -16,6 +17,9 @@ use Rattle.gv_top.specs.declared.explain.Explanation.{Explanation}
 use Rattle.gv_top.specs.Explain as explain_of
 use Rattle.gv_report.specs.declared.ran.Ran.{Ran}
 use Rattle.gv_top.specs.Replay as replay_of
+use Rattle.gv_top.specs.declared.judge.Judgement.{Judgement}
+use Rattle.gv_top.specs.Judge as judge_of
+use Rattle.gv_top.specs.Judge.{AreFewNodes}
 
 -- ---- reports
 
@@ -35,21 +39,31 @@ pub data Command : Type 0 where
   check : (package_name spec_name script_name : List ℕ) → Command
   explain : (spec_name history_name moves_name : List ℕ) → Command
   replay : (package_name spec_name schedule_name : List ℕ) → Command
+  judge : (spec_name history_name : List ℕ) (most : ℕ) → Command
 
 abbrev pub words_of : Command → List (List ℕ)
 words_of (check package_name spec_name script_name) = codes "check" ∷ package_name ∷ spec_name ∷ script_name ∷ []
 words_of (explain spec_name history_name moves_name) = codes "explain" ∷ spec_name ∷ history_name ∷ moves_name ∷ []
 words_of (replay package_name spec_name schedule_name) = codes "replay" ∷ package_name ∷ spec_name ∷ schedule_name ∷ []
+words_of (judge spec_name history_name most) = codes "judge" ∷ spec_name ∷ history_name ∷ decimal most ∷ []
+
+-- the numbers among them are within their bounds
+abbrev pub AreInRange : Command → Type 0
+AreInRange (check package_name spec_name script_name) = Unit {0}
+AreInRange (explain spec_name history_name moves_name) = Unit {0}
+AreInRange (replay package_name spec_name schedule_name) = Unit {0}
+AreInRange (judge spec_name history_name most) = AreFewNodes most
 
 -- the same for a word and three more
 abbrev pub AreWordsOf : Command → List ℕ → List ℕ → List ℕ → List ℕ → Type 0
-AreWordsOf command word first second third = words_of command ≡ word ∷ first ∷ second ∷ third ∷ []
+AreWordsOf command word first second third = (words_of command ≡ word ∷ first ∷ second ∷ third ∷ []) × AreInRange command
 
 -- the names of its files, in the order in which they are fetched
 abbrev pub files_of : Command → List (List ℕ)
 files_of (check package_name spec_name script_name) = package_name ∷ spec_name ∷ script_name ∷ []
 files_of (explain spec_name history_name moves_name) = spec_name ∷ history_name ∷ moves_name ∷ []
 files_of (replay package_name spec_name schedule_name) = package_name ∷ spec_name ∷ schedule_name ∷ []
+files_of (judge spec_name history_name most) = spec_name ∷ history_name ∷ []
 
 -- the reports that it may give over what the files give
 abbrev pub Comes : Source → Command → Report → Type 0
@@ -59,6 +73,8 @@ Comes source (explain spec_name history_name moves_name) r =
     (outcome : Result Explanation Halt) × explain_of.Explains source spec_name history_name moves_name outcome × (r ≡ reported explain_of.report_of outcome)
 Comes source (replay package_name spec_name schedule_name) r =
     (outcome : Result Ran Halt) × replay_of.Replays source package_name spec_name schedule_name outcome × (r ≡ reported replay_of.report_of outcome)
+Comes source (judge spec_name history_name most) r =
+    (outcome : Result Judgement Halt) × judge_of.Judges source spec_name history_name most outcome × (r ≡ reported judge_of.report_of outcome)
 
 -- ---- words
 
@@ -76,6 +92,7 @@ asks_for_json (word ∷ next ∷ words) = asks_for_json (next ∷ words)
 pub record Asks (words : List (List ℕ)) (command : Command) : Type 0 where
   pub plain : asks_for_json words ≡ false
   pub words_are : words ≡ words_of command
+  pub in_range : AreInRange command
 
 abbrev pub IsNoCommand : List (List ℕ) → Type 0
 IsNoCommand words = (command : Command) → Asks words command → ⊥
@@ -85,3 +102,4 @@ abbrev pub named : held.Command → Command
 named (held_command.Check names) = check names.«package».now names.spec.now names.script.now
 named (held_command.Explain names) = explain names.spec.now names.history.now names.moves.now
 named (held_command.Replay names) = replay names.«package».now names.spec.now names.schedule.now
+named (held_command.Judge names) = judge names.spec.now names.history.now names.most

@@ -4,6 +4,7 @@ pub mod Comparing
 pub mod Explain
 pub mod Files
 pub mod Forms
+pub mod Judge
 pub mod Laws
 pub mod Packages
 pub mod Promise

@@ -1,5 +1,5 @@
 -- What `run` promises of the files, by the command that its words are.
-use Rattle.std.specs.Prelude.{◌≡◌, ◌↔◌, ◌≤◌, ◌⊎◌, ℕ, true, not, ◌==◌, List, ◌++◌, Some, None, Err, All, Vec}
+use Rattle.std.specs.Prelude.{◌≡◌, ◌≢◌, ◌↔◌, ℕ, ◌+◌, ◌*◌, ◌≤◌, ◌⊎◌, true, not, ◌==◌, List, ◌++◌, length, map, Some, None, Err, All, Vec}
 use Rattle.std.specs.List.{list_all}
 use Rattle.std.specs.declared.alloc.Global.{Global}
 use Rattle.gv_base.specs.Outside.{Told}
@@ -9,7 +9,7 @@ use Rattle.gv_smallprogram.specs.Sums.{SameInterface}
 use Rattle.gv_spec.specs.Refines.{RefinesWithoutCrash}
 use Rattle.gv_spec.specs.declared.entry.Entry.{Entry}
 use Rattle.gv_spec.specs.declared.explanation.Move.{Move}
-use Rattle.gv_spec.specs.History.{IsExplanation, walked}
+use Rattle.gv_spec.specs.History.{IsExplanation, entry_of, walked}
 use Rattle.gv_spec.specs.Atomic.{atomic_of}
 use Rattle.gv_runs.specs.Machine.{setting_of, machine_of}
 use Rattle.gv_smallspec.specs.SmallSpec.{IsSmallOf}
@@ -17,17 +17,21 @@ use Rattle.gv_smallprogram.specs.Program.{program_of}
 use Rattle.gv_history.specs.declared.fault.WalkCause.{WalkCause}
 use Rattle.gv_history.specs.Fault.{cause_of}
 use Rattle.gv_report.specs.declared.report.Report.TheVariants.{AcceptedWithoutCrash, NotExplained, Ran}
-use Rattle.gv_report.specs.Report.{text_of}
+use Rattle.gv_report.specs.Report.{status_of, text_of}
 use Rattle.gv_report.specs.Heard.{Heard, IsWritten}
 use Rattle.gv_top.specs.Files.{Reads, outside}
 use Rattle.gv_top.specs.Forms.{packages, written_specs, histories_of, moves_of}
-use Rattle.gv_top.specs.Commands.{check, explain, replay, Asks, files_of}
+use Rattle.gv_top.specs.Commands.{check, explain, replay, judge, Asks, files_of}
 use Rattle.gv_replay.specs.declared.schedule.Schedule.{Schedule}
 use Rattle.gv_played.specs.declared.replaying.Ran as played
 use Rattle.gv_played.specs.Played.{IsRan}
 use Rattle.gv_lines.specs.Lines.{entry_lines}
 use Rattle.gv_interfaces.specs.Interfaces.{SameOperations}
 use Rattle.gv_top.specs.ReplayForms.{schedules_of}
+use Rattle.gv_judge.specs.Bound.{IsOneByOne}
+use Rattle.gv_judge.specs.Explained.{PicksNothing}
+use Rattle.gv_top.specs.declared.judge.Judgement.{Judgement}
+use Rattle.gv_top.specs.Judge.{Tells, IsFirstFull, AreNoneFull, AreSpent, report_of}
 
 -- no byte of the name is a newline
 abbrev pub IsOneLine : List ℕ → Type 0
@@ -101,6 +105,26 @@ pub record ReplayedPromise (held : List ℕ → Told) (heard : Heard) (status : 
   pub written : IsWritten heard (text_of (Ran (record { lines = entry_lines atomic run.history; undefined = run.undefined })))
   pub ended : status ≡ 0 ↔ (run.undefined ≡ None)
 
+-- THE PROMISE of `judge` on files of these names, with so many nodes to go through, where it ends with status 0, 1 or 7.
+pub record JudgedPromise (held : List ℕ → Told) (heard : Heard) (status : ℕ) (spec_name history_name : List ℕ) (most : ℕ) : Type 0 where
+  -- What the files held, where that is told, spells a specification, and a history of its calls.
+  pub atomic : Spec
+  pub is_spec : Reads (outside held) written_specs spec_name atomic
+  pub history : Vec Entry Global
+  pub is_history : Reads (outside held) (histories_of atomic) history_name history
+  -- It told this of the history: the first full node's moves, which explain it; that nothing does; or that the nodes are spent.
+  pub judgement : Judgement
+  pub tells : Tells atomic history.items most judgement
+  pub written : IsWritten heard (text_of (report_of judgement))
+  pub ended : status ≡ status_of (report_of judgement)
+  -- So the status is 0 exactly where the number of the first full node is at most `most`, 1 exactly where there are at most so many
+  -- nodes and none is full, and 7 exactly where there are more and none of the first so many is full.
+  pub yes : status ≡ 0 ↔ ((moves : List Move) × IsFirstFull atomic history.items most moves)
+  pub no : status ≡ 1 ↔ AreNoneFull atomic history.items most
+  pub spent : status ≡ 7 ↔ AreSpent atomic history.items most
+  -- Where nothing is picked, nothing crashes and each call answers before the next one starts, 2n + 1 nodes suffice for n entries.
+  pub enough : PicksNothing atomic → IsOneByOne None (map entry_of history.items) → 2 * length history.items + 1 ≤ most → status ≢ 7
+
 -- All of it: a field for each command.
 pub record Promise (words : List (List ℕ)) (held : List ℕ → Told) (heard : Heard) (status : ℕ) : Type 0 where
   pub accepted : IsAccepted words heard status → AcceptedPromise words held
@@ -108,3 +132,5 @@ pub record Promise (words : List (List ℕ)) (held : List ℕ → Told) (heard :
       → ExplainedPromise held heard status spec_name history_name moves_name
   pub replayed : (package_name spec_name schedule_name : List ℕ) → Asks words (replay package_name spec_name schedule_name) → (status ≡ 0) ⊎ (status ≡ 8)
       → ReplayedPromise held heard status package_name spec_name schedule_name
+  pub judged : (spec_name history_name : List ℕ) (most : ℕ) → Asks words (judge spec_name history_name most)
+      → (status ≡ 0) ⊎ ((status ≡ 1) ⊎ (status ≡ 7)) → JudgedPromise held heard status spec_name history_name most

@@ -68,4 +68,4 @@ pub record IsAnswered (words : List (List ℕ)) (a : Asked) (h : Heard) (status 
   pub exact : (r : Report) → Defines words a.held r → r ≢ OutOfMemory → OnlyAbsentFailed a → NoPutFailed h →
       IsTold h r status ⊎ IsTold h OutOfMemory status
   -- There is no other status.
-  pub known : (status ≤ 6) ⊎ (status ≡ 8)
+  pub known : status ≤ 8

@@ -1,17 +1,19 @@
 //! The table of commands.
 
-ghost use Rattle.std.specs.Prelude.{◌≡◌, ℕ, List as Seq, IfSome, IfNone, map, string_bytes};
+ghost use Rattle.std.specs.Prelude.{◌≡◌, ℕ, List as Seq, IfSome, IfNone, map, codes, string_bytes};
 ghost use Rattle.gv_top.specs.Check.{report_of};
 ghost use Rattle.gv_top.specs.Commands as table;
-ghost use Rattle.gv_top.specs.Commands.{Command as AnyCommand, AreWordsOf};
+ghost use Rattle.gv_top.specs.Commands.{Command as AnyCommand, AreWordsOf, AreInRange};
 ghost use Rattle.gv_top.specs.Explain.{report_of as explained_report};
 ghost use Rattle.gv_top.specs.Files.{asked, outside, IsBlamed};
+ghost use Rattle.gv_top.specs.Judge.{IsMost, report_of as judged_report};
 ghost use Rattle.gv_top.specs.Replay.{report_of as replayed_report};
 ghost use Rattle.gv_top.specs.Run.{IsBlamedIn};
 
 use crate::check::{CheckWords, Verdict, check};
 use crate::explain::{ExplainWords, Explanation, explain};
 use crate::files::Halt;
+use crate::judge::{JudgeWords, Judgement, judge, most_of};
 use crate::replay::{ReplayWords, replay};
 use gv_base::Files;
 use gv_report::{Ran, Report};
@@ -23,6 +25,7 @@ pub enum Command<'a> {
     Check(CheckWords<'a>),
     Explain(ExplainWords<'a>),
     Replay(ReplayWords<'a>),
+    Judge(JudgeWords<'a>),
 }
 
 // Whether the last word is `json`.
@@ -35,7 +38,22 @@ fn asks_for_json(words: &[String]) -> bool
     }
 }
 
-// The command that a word is over three files.
+// The command to judge the history under a name, where the last word tells how many nodes.
+fn of_judge<'a>(spec: &'a str, history: &'a str, most: &str) -> Option<Command<'a>>
+    ensures some { IfSome result (λ c. AreWordsOf (table.named c) (codes "judge") spec.now history.now most.now) }
+    ensures none { IfNone result ((n : ℕ) → IsMost most.now n → ⊥) }
+{
+    match most_of(most) {
+        Some(most) => Some(Command::Judge(JudgeWords {
+            spec,
+            history,
+            most,
+        })),
+        None => None,
+    }
+}
+
+// The command that a word is over three files, or over two and a number.
 fn of_three<'a>(
     word: &'a str,
     first: &'a str,
@@ -65,6 +83,9 @@ fn of_three<'a>(
             spec: second,
             schedule: third,
         }));
+    }
+    if word == "judge" {
+        return of_judge(first, second, third);
     }
     None
 }
@@ -123,6 +144,16 @@ fn explain_report(outcome: Result<Explanation, Halt>) -> Report
     }
 }
 
+// The report of what came of a search for an explanation.
+fn judge_report(outcome: Result<Judgement, Halt>) -> Report
+    ensures { result ≡ table.reported judged_report outcome }
+{
+    match outcome {
+        Ok(judgement) => judgement.report(),
+        Err(halt) => halt.report(),
+    }
+}
+
 // The report of what came of a replay.
 fn replay_report(outcome: Result<Ran, Halt>) -> Report
     ensures { result ≡ table.reported replayed_report outcome }
@@ -135,6 +166,7 @@ fn replay_report(outcome: Result<Ran, Halt>) -> Report
 
 /// The report of what comes of a command.
 pub fn perform<F: Files>(alloc: Global, command: &Command, files: &mut F) -> Report
+    requires { AreInRange (table.named command.now) }
     ensures comes { table.Comes (outside (F.held files.old)) (table.named command.now) result }
     ensures blame { IsBlamedIn (asked F.held F.faults F.failed files.old files.new) result }
     ensures kept { (other : Seq ℕ) → F.held files.new other ≡ F.held files.old other }
@@ -143,5 +175,6 @@ pub fn perform<F: Files>(alloc: Global, command: &Command, files: &mut F) -> Rep
         Command::Check(names) => check_report(check(alloc, names, files)),
         Command::Explain(names) => explain_report(explain(alloc, names, files)),
         Command::Replay(names) => replay_report(replay(alloc, names, files)),
+        Command::Judge(names) => judge_report(judge(alloc, names, files)),
     }
 }

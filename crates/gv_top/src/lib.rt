@@ -7,6 +7,7 @@ mod comparing;
 mod explain;
 mod files;
 mod forms;
+mod judge;
 mod laws;
 mod program;
 mod replay;

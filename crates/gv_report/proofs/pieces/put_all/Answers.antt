@@ -1,4 +1,4 @@
-use Rattle.std.proofs.Common.{◌≤◌, ◌∙◌, length, arith, refl}
+use Rattle.std.proofs.Common.{◌∙◌, arith, refl}
 use Rattle.gv_report.proofs.PutLemmas.{put_more, put_prefix}
 use Rattle.gv_report.proofs.pieces.put_all.Goals as goal
 

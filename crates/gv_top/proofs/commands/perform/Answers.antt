@@ -8,3 +8,9 @@ returns-in-Explain-clause-comes g c = rw c.in-Explain.is (c.explain.result, c.ex
 
 pub returns-in-Replay-clause-comes : goal.returns-in-Replay-clause-comes
 returns-in-Replay-clause-comes g c = rw c.in-Replay.is (c.replay.result, c.replay.ensures.outcome, c.replay_report.ensures)
+
+pub judge-requires : goal.judge-requires
+judge-requires g c = (rw c.in-Judge.is at c.requires).some
+
+pub returns-in-Judge-clause-comes : goal.returns-in-Judge-clause-comes
+returns-in-Judge-clause-comes g c = rw c.in-Judge.is (c.judge.result, c.judge.ensures.outcome, c.judge_report.ensures)

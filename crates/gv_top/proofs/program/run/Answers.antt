@@ -2,6 +2,7 @@ use Rattle.gv_report.specs.Heard.{Heard, heard}
 use Rattle.gv_top.specs.Commands.{texts}
 use Rattle.gv_top.specs.Files.{Asked, asked, outside}
 use Rattle.gv_top.proofs.ExactLemmas.{exact}
+use Rattle.gv_top.proofs.JudgeLemmas.{judged}
 use Rattle.gv_top.proofs.ReplayLemmas.{replayed}
 use Rattle.gv_top.proofs.RunLemmas as run
 use Rattle.gv_top.proofs.WrittenLemmas.{accepted}
@@ -20,6 +21,8 @@ returns-clause-promise g c =
       explained = λ s x m asks l. run.explained words a h r status d c.tell-2.ensures s x m asks l;
       replayed = λ p s x asks ends.
           replayed words a h r status d c.tell-2.ensures (λ command others. run.comes_of words (outside a.held) command r others d.given) p s x asks ends;
+      judged = λ s x most asks ends.
+          judged words a h r status d c.tell-2.ensures (λ command others. run.comes_of words (outside a.held) command r others d.given) s x most asks ends;
     }
 
 pub returns-clause-answered : goal.returns-clause-answered

@@ -1,6 +1,5 @@
-use Rattle.std.proofs.Common.{ℕ, List, refl, sym, subst, ap, ◌∙◌}
+use Rattle.std.proofs.Common.{ℕ, List, refl, sym, subst, ◌∙◌}
 use Rattle.gv_report.specs.declared.report.Report.{Report}
-use Rattle.gv_report.specs.Report.{text_of, status_of}
 use Rattle.gv_report.specs.Heard.{Heard, heard, Tells, whole, cut, IsWritten, IsPrefixWritten}
 use Rattle.gv_report.proofs.answer.Answer.tell.Goals as goal
 

@@ -1,0 +1,156 @@
+-- What the words, the text and the status of a judgement tell.
+use Rattle.std.proofs.Common.{◌≡◌, ◌≢◌, ℕ, ◌+◌, ◌*◌, ◌≤◌, List, [], ◌∷◌, ◌++◌, length, get_or, map, None, Result, Ok, refl, sym, ap, subst, ◌∙◌, inl, inr, arith}
+use Rattle.std.specs.Prelude.{◌↔◌, Vec}
+use Rattle.std.specs.declared.alloc.Global.{Global}
+use Rattle.gv_base.specs.Outside.{Told}
+use Rattle.gv_terms.specs.declared.value.Value.{Value}
+use Rattle.gv_atomic.specs.declared.spec.Spec.{Spec}
+use Rattle.gv_spec.specs.declared.entry.Entry.{Entry}
+use Rattle.gv_spec.specs.declared.entry.Entry.TheVariants as entry
+use Rattle.gv_spec.specs.declared.explanation.Move.{Move}
+use Rattle.gv_spec.specs.declared.explanation.Move.TheVariants as move
+use Rattle.gv_spec.specs.History.{entry_of, move_of}
+use Rattle.gv_judge.specs.Bound.{IsOneByOne}
+use Rattle.gv_judge.specs.Explained.{search_order, PicksNothing}
+use Rattle.gv_judge.specs.SearchLaws.{AnswersExclude}
+use Rattle.gv_judge.proofs.AnswerLaws.{answers_exclude}
+use Rattle.gv_judge.proofs.Explained.{few_without_picks}
+use Rattle.gv_lines.specs.Moves.{move_lines}
+use Rattle.gv_report.specs.declared.report.Report.{Report}
+use Rattle.gv_report.specs.declared.report.Report.TheVariants as report
+use Rattle.gv_report.specs.Heard.{Heard, Tells as Tells_of_report, whole, cut, IsWritten}
+use Rattle.gv_report.specs.Report.{joined, status_of, text_of}
+use Rattle.gv_top.specs.declared.files.Halt.{Halt}
+use Rattle.gv_top.specs.declared.judge.Judgement.{Judgement}
+use Rattle.gv_top.specs.declared.judge.Judgement.TheVariants.{Explained, Unexplained, Spent}
+use Rattle.gv_top.specs.Commands.{Command, check, explain, replay, judge, Asks, Comes, reported}
+use Rattle.gv_top.specs.Files.{Asked, Source, Finishes, Reads, outside}
+use Rattle.gv_top.specs.Forms.{written_specs, histories_of}
+use Rattle.gv_top.specs.Judge.{Tells, IsFirstFull, AreNoneFull, AreSpent, Judges, report_of}
+use Rattle.gv_top.specs.Promise.{JudgedPromise}
+use Rattle.gv_top.specs.Run.{Gives, usage, done, Deserves}
+use Rattle.gv_top.proofs.JudgeExact as exact
+use Rattle.gv_top.proofs.OutcomeLemmas.{check_never_finds, explain_never_finds, replay_never_finds, found_of, IsJudged, judge_came, then_read}
+
+-- ---- no list of moves begins as an acceptance does
+
+nth : (n : ℕ) (xs ys : List ℕ) → xs ≡ ys → get_or xs n 0 ≡ get_or ys n 0
+nth n xs ys e = ap (λ (v : List ℕ). get_or v n 0) e
+
+begins_otherwise : (s : Spec) (ms : List Move) (rest : List ℕ) → joined (move_lines s ms) ≡ text_of report.AcceptedWithoutCrash ++ rest → ⊥
+begins_otherwise s [] rest e = let h : 0 ≡ 97 = nth 0 _ (text_of report.AcceptedWithoutCrash ++ rest) e in omega (arith, h)
+begins_otherwise s (move.Act number choices ∷ ms) rest e = let h : 116 ≡ 99 = nth 2 _ (text_of report.AcceptedWithoutCrash ++ rest) e in omega (arith, h)
+begins_otherwise s (move.Boot choices ∷ ms) rest e = let h : 98 ≡ 97 = nth 0 _ (text_of report.AcceptedWithoutCrash ++ rest) e in omega (arith, h)
+begins_otherwise s (move.Other (entry.Call number op args) ∷ ms) rest e = let h : 99 ≡ 97 = nth 0 _ (text_of report.AcceptedWithoutCrash ++ rest) e in omega (arith, h)
+begins_otherwise s (move.Other (entry.Answer number reply) ∷ ms) rest e = let h : 110 ≡ 99 = nth 1 _ (text_of report.AcceptedWithoutCrash ++ rest) e in omega (arith, h)
+begins_otherwise s (move.Other entry.Crash ∷ ms) rest e = let h : 99 ≡ 97 = nth 0 _ (text_of report.AcceptedWithoutCrash ++ rest) e in omega (arith, h)
+begins_otherwise s (move.Other entry.Boot ∷ ms) rest e = let h : 98 ≡ 97 = nth 0 _ (text_of report.AcceptedWithoutCrash ++ rest) e in omega (arith, h)
+
+-- ---- where a judgement came of it
+
+-- the two values that were read, and what is told of them
+record Came (source : Source) (s h : List ℕ) (most : ℕ) (j : Judgement) : Type 0 where
+  spec : Spec
+  is_spec : Reads source written_specs s spec
+  history : Vec Entry Global
+  is_history : Reads source (histories_of spec) h history
+  tells : Tells spec history.items most j
+
+judgement_is : (source : Source) (s h : List ℕ) (most : ℕ) (j : Judgement) (o : Result Judgement Halt) → o ≡ Ok j → Judges source s h most o → Came source s h most j
+judgement_is source s h most j o e judges =
+    then_read source written_specs s (exact.First source h most) o j e judges (λ spec spec_reads next.
+    then_read source (histories_of spec) h (exact.Last most spec) o j e next (λ history history_reads last.
+    record {
+      spec = spec;
+      is_spec = spec_reads;
+      history = history;
+      is_history = history_reads;
+      tells = subst (λ (r : Result Judgement Halt). Finishes (Tells spec history.items most) r) e last;
+    }))
+
+pub moves_text : (words : List (List ℕ)) (source : Source) (lines : List (List ℕ)) (rest : List ℕ) → Gives source words (report.Moves lines)
+    → text_of (report.Moves lines) ≡ text_of report.AcceptedWithoutCrash ++ rest → ⊥
+moves_text words source lines rest given text = by_words (report.Moves lines) refl given
+  where
+    by_command : (command : Command) (r : Report) → r ≡ report.Moves lines → Comes source command r → ⊥
+    by_command (check p s t) r e (o, checks, is) = check_never_finds o lines (sym e ∙ is)
+    by_command (explain s h m) r e (o, explains, is) = explain_never_finds o lines (sym e ∙ is)
+    by_command (replay p s c) r e (o, replays, is) = replay_never_finds o lines (sym e ∙ is)
+    by_command (judge s h m) r e (o, judges, is) =
+        let came = judgement_is source s h m (Explained lines) o (found_of o lines (sym e ∙ is)) judges in
+        begins_otherwise came.spec came.tells.moves rest (ap joined (sym came.tells.lines_are) ∙ text)
+
+    by_words : (r : Report) → r ≡ report.Moves lines → Gives source words r → ⊥
+    by_words r e (usage h) = cc
+    by_words r e (done command asks comes) = by_command command r e comes
+
+-- ---- the promise
+
+exclude : AnswersExclude Value
+exclude = answers_exclude Value
+
+module _ (s : Spec) (history : List Entry) (most : ℕ) where
+  abbrev IsYes : Type 0
+  IsYes = (moves : List Move) × IsFirstFull s history most moves
+
+  yes_exactly : (j : Judgement) → Tells s history most j → status_of (report_of j) ≡ 0 ↔ IsYes
+  yes_exactly (Explained lines) h = (λ z. (h.moves, h.first), λ k. refl)
+  yes_exactly Unexplained h =
+      (λ z. absurd (omega (arith, z)), λ k. absurd (exclude.first_or_none (search_order s history) (map entry_of history) most (map move_of k.0) k.1 h.0))
+  yes_exactly (Spent n) h =
+      (λ z. absurd (omega (arith, z)), λ k. absurd (exclude.first_or_spent (search_order s history) (map entry_of history) most (map move_of k.0) k.1 h.1))
+
+  no_exactly : (j : Judgement) → Tells s history most j → status_of (report_of j) ≡ 1 ↔ AreNoneFull s history most
+  no_exactly (Explained lines) h =
+      (λ z. absurd (omega (arith, z)), λ k. absurd (exclude.first_or_none (search_order s history) (map entry_of history) most (map move_of h.moves) h.first k))
+  no_exactly Unexplained h = (λ z. h.0, λ k. refl)
+  no_exactly (Spent n) h = (λ z. absurd (omega (arith, z)), λ k. absurd (exclude.none_or_spent (search_order s history) (map entry_of history) most k h.1))
+
+  spent_exactly : (j : Judgement) → Tells s history most j → status_of (report_of j) ≡ 7 ↔ AreSpent s history most
+  spent_exactly (Explained lines) h =
+      (λ z. absurd (omega (arith, z)), λ k. absurd (exclude.first_or_spent (search_order s history) (map entry_of history) most (map move_of h.moves) h.first k))
+  spent_exactly Unexplained h = (λ z. absurd (omega (arith, z)), λ k. absurd (exclude.none_or_spent (search_order s history) (map entry_of history) most h.0 k))
+  spent_exactly (Spent n) h = (λ z. h.1, λ k. refl)
+
+  enough : (j : Judgement) → Tells s history most j → PicksNothing s → IsOneByOne None (map entry_of history) → 2 * length history + 1 ≤ most
+      → status_of (report_of j) ≢ 7
+  enough j h none one much z =
+      let few = few_without_picks s none history one in
+      let more = (spent_exactly j h).0 z in
+      let over = more.count in
+      omega (arith, few, over, much)
+
+promise_of : (held : List ℕ → Told) (heard : Heard) (s h : List ℕ) (most : ℕ) (j : Judgement) → IsWritten heard (text_of (report_of j)) → Came (outside held) s h most j
+    → JudgedPromise held heard (status_of (report_of j)) s h most
+promise_of held heard s h most j w came = record {
+  atomic = came.spec;
+  is_spec = came.is_spec;
+  history = came.history;
+  is_history = came.is_history;
+  judgement = j;
+  tells = came.tells;
+  written = w;
+  ended = refl;
+  yes = yes_exactly came.spec came.history.items most j came.tells;
+  no = no_exactly came.spec came.history.items most j came.tells;
+  spent = spent_exactly came.spec came.history.items most j came.tells;
+  enough = λ none one much. enough came.spec came.history.items most j came.tells none one much;
+}
+
+cut_never : IsJudged 6 → ⊥
+cut_never (inl e) = omega (arith, e)
+cut_never (inr (inl e)) = omega (arith, e)
+cut_never (inr (inr e)) = omega (arith, e)
+
+pub judged : (words : List (List ℕ)) (a : Asked) (heard : Heard) (r : Report) (status : ℕ) → Deserves words a r → Tells_of_report r heard status
+    → ((command : Command) → Asks words command → Comes (outside a.held) command r)
+    → (s h : List ℕ) (most : ℕ) → Asks words (judge s h most) → IsJudged status → JudgedPromise a.held heard status s h most
+judged words a heard r status d (cut o w) comes s h most asks ends = absurd (cut_never ends)
+judged words a heard r status d (whole w f) comes s h most asks ends = go (comes (judge s h most) asks) ends
+  where
+    go : Comes (outside a.held) (judge s h most) r → IsJudged (status_of r) → JudgedPromise a.held heard (status_of r) s h most
+    go (o, judges, is) ends =
+        judge_came o (subst (λ (x : Report). IsJudged (status_of x)) is ends) (λ j o_is.
+        let r_is : r ≡ report_of j = is ∙ ap (reported report_of) o_is in
+        subst (λ (y : Report). JudgedPromise a.held heard (status_of y) s h most) (sym r_is)
+        (promise_of a.held heard s h most j (subst (λ (y : Report). IsWritten heard (text_of y)) r_is w) (judgement_is (outside a.held) s h most j o o_is judges)))
