@@ -8,12 +8,12 @@ use Rattle.gv_operands.specs.declared.types.GoType.{GoType}
 use Rattle.gv_operands.specs.declared.types.GoType.TheVariants.{Boolean}
 use Rattle.gv_gotypes.specs.Trees as go
 use Rattle.gv_gotypes.specs.Types.{Finding, Fault, Outer, Assigned}
-use Rattle.gv_gotypes.specs.Scopes.{Env, opened, in_literal}
+use Rattle.gv_gotypes.specs.Scopes.{Env, name_in, is_blank, opened, in_literal}
 use Rattle.gv_gotypes.specs.Kinds.{kind_of as type_of}
 use Rattle.gv_gotypes.specs.Statements.{header_env, block_findings}
 use Rattle.gv_gotypes.specs.Statements.{after as env_after}
 use Rattle.gv_lowering.specs.Operands.{VariableAt, Context, kind_if, Read, temporary, block_of, tail, read}
-use Rattle.gv_lowering.specs.Statements.{Declared, Made, no_commands, made, followed, Known, all_fresh, set, args, call, results_of, zero_of, simple_if, simple, at_byte}
+use Rattle.gv_lowering.specs.Statements.{Declared, Made, no_commands, made, followed, Target, Known, Fresh, given, first_of, all_fresh, set, args, call, results_of, zero_of, simple_if, simple, at_byte}
 
 -- ---- variables that a literal captures
 
@@ -66,12 +66,12 @@ abbrev pub returned : Context → Place → Env → ℕ → List go.Right → Ma
 returned c at env n (go.Result k ∷ []) = returned_call c at env n k
 returned c at env n rs = let a = args c at env n env.results (operands_of rs) in made (a.cmds ++ lang.Return a.values at ∷ []) a.temps
 
--- ---- declarations of variables
+-- ---- declarations of variables, each its own local; `_` is a temporary and declares nothing
 
-abbrev pub declared_value : Context → Place → Env → ℕ → ℕ → Option GoType → Option go.Right → Made
-declared_value c at env n x k None = made (lang.Do (lang.Let x (zero_of k)) at ∷ []) []
-declared_value c at env n x k (Some (go.Value e)) = set c at n (Known x ∷ []) (tail c at env e k n)
-declared_value c at env n x k (Some (go.Result r)) = call c at env n (Known x ∷ []) r
+abbrev pub declared_value : Context → Place → Env → ℕ → Target → Option GoType → Option go.Right → Made
+declared_value c at env n x k None = let xs = given c n (x ∷ []) in made (lang.Do (lang.Let (first_of xs.0) (zero_of k)) at ∷ []) xs.1
+declared_value c at env n x k (Some (go.Value e)) = set c at n (x ∷ []) (tail c at env e k n)
+declared_value c at env n x k (Some (go.Result r)) = call c at env n (x ∷ []) r
 
 abbrev pub declaring_one : Declared → Made → Made
 declaring_one d m = record { cmds = m.cmds; temps = m.temps; declared = d ∷ m.declared }
@@ -117,7 +117,8 @@ module _ (c : Context) where
     stmt go.Empty env post n = no_commands
     stmt (go.Simple s) env post n = simple c env n s
     stmt (go.Var w t k r) env post n =
-        declaring_one (t.start, type_of env k) (declared_value c (at_byte env w.start) env n (c.place (VariableAt t.start)) (type_of env k) r)
+        if is_blank (name_in env.source t) then declared_value c (at_byte env w.start) env n (Fresh (kind_if (type_of env k))) (type_of env k) r
+        else declaring_one (t.start, type_of env k) (declared_value c (at_byte env w.start) env n (Known (c.place (VariableAt t.start))) (type_of env k) r)
     stmt (go.If w e b o) env post n = let r = read c (at_byte env w.start) env e (Some Boolean) n in
         let t = block b (opened env) post (n + length r.temps) in
         branching (at_byte env w.start) r t (other o env post (n + length r.temps + length t.temps))

@@ -1,10 +1,18 @@
 -- Worked rows: the program of a sum, and the procedures of a package with every kind of statement, computed.
-use Rattle.std.specs.Prelude.{◌≡◌, ℕ, true, [], ◌∷◌, ◌++◌, codes}
+use Rattle.std.specs.Prelude.{◌≡◌, ℕ, true, [], ◌∷◌, ◌++◌, codes, None}
 use Rattle.gv_base.specs.declared.answers.Place.{Place}
 use Rattle.gv_lang.specs.declared.pure.Binary.TheVariants as binary
 use Rattle.gv_lang.specs.declared.program.LocalKind.TheVariants as kind
 use Rattle.gv_lang.specs.WellShaped.{is_well_shaped}
-use Rattle.gv_lang.specs.Tree.{LocalAt, Two, New, Do, Return, finish, next, Program}
+use Rattle.gv_gosyntax.specs.declared.lexeme.Lexeme.{Lexeme}
+use Rattle.gv_gosyntax.specs.declared.tree.GoType.{GoType}
+use Rattle.gv_gotypes.specs.Trees as go
+use Rattle.gv_gotypes.specs.Kinds.{kind_of as type_of}
+use Rattle.gv_gotypes.specs.Scopes.{Env, name_in, is_blank}
+use Rattle.gv_lowering.specs.Operands.{Context, kind_if, temporary}
+use Rattle.gv_lowering.specs.Statements.{made, zero_of, at_byte}
+use Rattle.gv_lowering.specs.Bodies.{Post, stmt}
+use Rattle.gv_lang.specs.Tree.{LocalAt, Let, Two, New, Do, Return, finish, next, Program}
 use Rattle.gv_gotypes.specs.Rows.{adder_source, adder_file}
 use Rattle.gv_lowering.specs.More.{more_source, more_file, more}
 use Rattle.gv_lowering.specs.Programs.{program_of}
@@ -36,7 +44,14 @@ adder = record {
   ops = 1 ∷ [];
 }
 
+-- `var _ T` sets a temporary of its kind to zero, and declares nothing
+abbrev pub BlankIsTemporary : Type 0
+BlankIsTemporary = (c : Context) (w t : Lexeme) (k : GoType) (env : Env) (post : Post) (n : ℕ) → is_blank (name_in env.source t) ≡ true
+    → stmt c (go.Var w t k None) env post n
+    ≡ made (Do (Let (temporary c n) (zero_of (type_of env k))) (at_byte env w.start) ∷ []) (kind_if (type_of env k) ∷ [])
+
 pub record Rows : Type 0 where
+  pub blank : BlankIsTemporary
   pub sum : program_of adder_source adder_file ≡ adder
   pub statements : program_of shapes_source shapes_file ≡ shapes
   pub more_statements : program_of more_source more_file ≡ more
