@@ -183,17 +183,19 @@ module _ (text : List ℕ) (spec : Spec) (program : Program) where
   none_there t (Some x) = none_same (λ at code h. some_none h.0)
 
   pub op_outline_same : (sc : Scope) (before : List OpOutline) (o : OpOutline) → Same (HasOpFault text spec program sc before o) (of_op text spec program sc before o)
-  op_outline_same sc before o = via (HasOpFault text spec program sc before o) (either_same (none_there o.name (op_named spec (name_in text o.name))) (either_same (only_same (not (is_borne (names_in text (map (λ p. p.name) before)) (name_in text o.name))) o.name.start Twice) (body_same sc (proc_of_op program (name_in text o.name)) o.body))) to back
+  op_outline_same sc before o = via (HasOpFault text spec program sc before o) (either_same (none_there o.name (op_named spec (name_in text o.name))) (either_same (none_there o.name (proc_of_op program (name_in text o.name))) (either_same (only_same (not (is_borne (names_in text (map (λ p. p.name) before)) (name_in text o.name))) o.name.start Twice) (body_same sc (proc_of_op program (name_in text o.name)) o.body)))) to back
     where
-      to : (at : ℕ) (code : Code) → (HasOpFault text spec program sc before o) at code → (λ (a : ℕ) (c : Code). (op_named spec (name_in text o.name) ≡ None) × (o.name.start ≡ a) × (Undeclared ≡ c)) at code ⊎ ((Only (not (is_borne (names_in text (map (λ p. p.name) before)) (name_in text o.name))) o.name.start Twice) at code ⊎ ((HasBodyFault text spec program sc (proc_of_op program (name_in text o.name)) o.body) at code))
+      to : (at : ℕ) (code : Code) → (HasOpFault text spec program sc before o) at code → (λ (a : ℕ) (c : Code). (op_named spec (name_in text o.name) ≡ None) × (o.name.start ≡ a) × (Undeclared ≡ c)) at code ⊎ ((λ (a : ℕ) (c : Code). (proc_of_op program (name_in text o.name) ≡ None) × (o.name.start ≡ a) × (Undeclared ≡ c)) at code ⊎ ((Only (not (is_borne (names_in text (map (λ p. p.name) before)) (name_in text o.name))) o.name.start Twice) at code ⊎ ((HasBodyFault text spec program sc (proc_of_op program (name_in text o.name)) o.body) at code)))
       to at code (fault.no_operation e) = inl (e, refl, refl)
-      to at code (fault.op_again e) = inr (inl (not_true (is_borne (names_in text (map (λ p. p.name) before)) (name_in text o.name)) e, refl, refl))
-      to at code (fault.op_body g) = inr (inr (g))
+      to at code (fault.no_method e) = inr (inl (e, refl, refl))
+      to at code (fault.op_again e) = inr (inr (inl (not_true (is_borne (names_in text (map (λ p. p.name) before)) (name_in text o.name)) e, refl, refl)))
+      to at code (fault.op_body g) = inr (inr (inr (g)))
 
-      back : (at : ℕ) (code : Code) → (λ (a : ℕ) (c : Code). (op_named spec (name_in text o.name) ≡ None) × (o.name.start ≡ a) × (Undeclared ≡ c)) at code ⊎ ((Only (not (is_borne (names_in text (map (λ p. p.name) before)) (name_in text o.name))) o.name.start Twice) at code ⊎ ((HasBodyFault text spec program sc (proc_of_op program (name_in text o.name)) o.body) at code)) → (HasOpFault text spec program sc before o) at code
+      back : (at : ℕ) (code : Code) → (λ (a : ℕ) (c : Code). (op_named spec (name_in text o.name) ≡ None) × (o.name.start ≡ a) × (Undeclared ≡ c)) at code ⊎ ((λ (a : ℕ) (c : Code). (proc_of_op program (name_in text o.name) ≡ None) × (o.name.start ≡ a) × (Undeclared ≡ c)) at code ⊎ ((Only (not (is_borne (names_in text (map (λ p. p.name) before)) (name_in text o.name))) o.name.start Twice) at code ⊎ ((HasBodyFault text spec program sc (proc_of_op program (name_in text o.name)) o.body) at code))) → (HasOpFault text spec program sc before o) at code
       back at code (inl h) = moved (HasOpFault text spec program sc before o) o.name.start at Undeclared code h.1 h.2 (fault.no_operation h.0)
-      back at code (inr (inl h)) = moved (HasOpFault text spec program sc before o) o.name.start at Twice code h.1 h.2 (fault.op_again (not_false (is_borne (names_in text (map (λ p. p.name) before)) (name_in text o.name)) h.0))
-      back at code (inr (inr h)) = fault.op_body h
+      back at code (inr (inl h)) = moved (HasOpFault text spec program sc before o) o.name.start at Undeclared code h.1 h.2 (fault.no_method h.0)
+      back at code (inr (inr (inl h))) = moved (HasOpFault text spec program sc before o) o.name.start at Twice code h.1 h.2 (fault.op_again (not_false (is_borne (names_in text (map (λ p. p.name) before)) (name_in text o.name)) h.0))
+      back at code (inr (inr (inr h))) = fault.op_body h
 
   -- there is no such procedure, or it has another number of results
   abbrev pub Results : SeenToken → List SeenToken → Option Proc → Kind

@@ -105,6 +105,7 @@ module _ (text : List ℕ) (spec : Spec) (program : Program) where
 
   pub data HasOpFault (sc : Scope) (before : List OpOutline) (o : OpOutline) : ℕ → Code → Type 0 where
     no_operation : op_named spec (name_in text o.name) ≡ None → HasOpFault sc before o o.name.start Undeclared
+    no_method : proc_of_op program (name_in text o.name) ≡ None → HasOpFault sc before o o.name.start Undeclared
     op_again : is_borne (names_in text (map (λ p. p.name) before)) (name_in text o.name) ≡ true → HasOpFault sc before o o.name.start Twice
     op_body : {at : ℕ} {code : Code} → HasBodyFault sc (proc_of_op program (name_in text o.name)) o.body at code → HasOpFault sc before o at code
 

@@ -135,8 +135,9 @@ module _ (text : List ℕ) (spec : Spec) (program : Program) where
   abbrev pub of_op : Scope → List OpOutline → OpOutline → Found
   of_op sc before o =
       if_none (op_named spec (name_in text o.name)) o.name
+      ++ (if_none (proc_of_op program (name_in text o.name)) o.name
       ++ (unless (not (is_borne (names_in text (map (λ p. p.name) before)) (name_in text o.name))) o.name.start Twice
-      ++ of_body sc (proc_of_op program (name_in text o.name)) o.body)
+      ++ of_body sc (proc_of_op program (name_in text o.name)) o.body))
 
   abbrev pub of_results : SeenToken → List SeenToken → Option Proc → Found
   of_results t names None = (t.start, Undeclared) ∷ []
