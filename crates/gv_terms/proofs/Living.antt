@@ -181,6 +181,12 @@ one_held m [] d v e is = absurd (omega arith)
 one_held m (p ∷ []) d v e is = ap (λ x. x ∷ []) is
 one_held m (p ∷ q ∷ ps) d v e is = absurd (omega arith)
 
+pub two_held : (m : BTreeMap ℕ Kept) (ps : List Term) (d e : Term) (v w : Value) → length ps ≡ 2 → v ≡ held m (get_or ps 0 d).id → w ≡ held m (get_or ps 1 e).id → v ∷ w ∷ [] ≡ held_all m ps
+two_held m [] d e v w long is too = absurd (omega arith)
+two_held m (p ∷ []) d e v w long is too = absurd (omega arith)
+two_held m (p ∷ q ∷ []) d e v w long is too = ap (λ x. x ∷ w ∷ []) is ∙ ap (λ x. held m p.id ∷ x ∷ []) too
+two_held m (p ∷ q ∷ r ∷ ps) d e v w long is too = absurd (omega arith)
+
 -- what a node reads is kept
 
 pub node_parts : (ns : List Stored) (root : ℕ) (env : Env) (ss : List Step) (n l : ℕ) (m : BTreeMap ℕ Kept) (node : Stored) → root < length ns → AreSound ns → node ≡ get_or ns n node → IsLive ns root env (trees_of ns) (ss ++ step n l ∷ []) m → AreHeld m node.parts

@@ -3,8 +3,8 @@
 ghost use Rattle.std.specs.Prelude.{◌≡◌, ◌↔◌, ◌<◌, ◌^◌, IfOk, IsTrue, length, replicate, slice_set};
 ghost use Rattle.gv_terms.specs.Meaning.{part_of, joined};
 
-use crate::item::Item;
 use gv_base::NoMemory;
+use gv_trees::Item;
 use std::alloc::Global;
 
 /// A list of equal items.

@@ -1,12 +1,10 @@
 //! Sorts, terms, the store that makes them, their values, and terms as they were read.
 #![tactic(auto)]
 
-mod item;
 mod items;
 mod laws;
 mod lists;
 mod live;
-mod map;
 mod maps;
 mod operate;
 mod operator;
@@ -25,9 +23,7 @@ mod value;
 mod var;
 mod words;
 
-pub use item::Item;
 pub use laws::values_of_trees;
-pub use map::FiniteMap;
 pub use operator::Operator;
 pub use resolving::{ResolveFault, resolve};
 pub use scope::Scope;

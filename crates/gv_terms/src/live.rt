@@ -81,31 +81,6 @@ fn give_up(live: &mut Live, parts: &[Term], reader: u64)
     }
 }
 
-// The value of an operator over two nodes.
-fn over_two(
-    alloc: Global,
-    live: &mut Live,
-    operator: Operator,
-    a: Term,
-    b: Term,
-    reader: u64,
-) -> Result<Value, NoMemory>
-    requires counted { arity operator ≡ 2 }
-    requires first { IsSome (tree.get nat_cmp live.old a.id) }
-    requires second { IsSome (tree.get nat_cmp live.old b.id) }
-    ensures value { IfOk result (λ v. v ≡ operate operator (held live.old a.id ∷ held live.old b.id ∷ [])) }
-    ensures loses { Loses reader live.old live.new }
-{
-    match operator {
-        Operator::Del => {
-            let key = value_of(live, b).word();
-            let map = take(alloc, live, a, reader)?;
-            Ok(map.map_without(key))
-        }
-        _ => operator.over_two(alloc, value_of(live, a), value_of(live, b)),
-    }
-}
-
 // The value of a choice: of the second node or of the third.
 fn choice(
     alloc: Global,
@@ -147,12 +122,6 @@ fn over_three(
 {
     match operator {
         Operator::If => choice(alloc, live, a, b, c, reader),
-        Operator::Put => {
-            let key = value_of(live, b).word();
-            let item = value_of(live, c).copy(alloc)?;
-            let map = take(alloc, live, a, reader)?;
-            map.map_with(alloc, key, &item)
-        }
         _ => operator.over_three(
             alloc,
             value_of(live, a),
@@ -176,16 +145,16 @@ fn over(
     ensures loses { Loses reader live.old live.new }
 {
     match parts {
-        [] => Ok(operator.constant(alloc)),
+        [] => Ok(operator.constant()),
         [a] => operator.over_one(alloc, value_of(live, *a)),
-        [a, b] => over_two(alloc, live, operator, *a, *b, reader),
+        [a, b] => operator.over_two(alloc, value_of(live, *a), value_of(live, *b)),
         [a, b, c] => over_three(alloc, live, operator, *a, *b, *c, reader),
         _ => Ok(Value::Unit),
     }
 }
 
-/// The value of an operator over nodes, whose values are given up where this is their last reader. A map
-/// or a choice is taken and not copied there.
+/// The value of an operator over nodes, whose values are given up where this is their last reader. What is
+/// chosen is taken and not copied there.
 pub fn operated(
     alloc: Global,
     live: &mut Live,

@@ -34,27 +34,27 @@ impl Value {
     }
 
     /// `put(m, k, v)`
-    pub fn map_with(self, alloc: Global, k: u64, v: &Value) -> Result<Value, NoMemory>
-        ensures { IfOk result (λ w. w ≡ map_with self k v.now) }
+    pub fn map_with(&self, alloc: Global, k: u64, v: &Value) -> Result<Value, NoMemory>
+        ensures { IfOk result (λ w. w ≡ map_with self.now k v.now) }
     {
         match self {
-            Value::MapWW(m) => Ok(Value::MapWW(m.with(k, v.word())?)),
+            Value::MapWW(m) => Ok(Value::MapWW(m.with(alloc, k, v.word())?)),
             Value::MapWB(m) => {
                 let item = v.block(alloc)?;
-                Ok(Value::MapWB(m.with(k, item)?))
+                Ok(Value::MapWB(m.with(alloc, k, item)?))
             }
             _ => Ok(Value::Unit),
         }
     }
 
     /// `del(m, k)`
-    pub fn map_without(self, k: u64) -> Value
-        ensures { result ≡ map_without self k }
+    pub fn map_without(&self, alloc: Global, k: u64) -> Result<Value, NoMemory>
+        ensures { IfOk result (λ v. v ≡ map_without self.now k) }
     {
         match self {
-            Value::MapWW(m) => Value::MapWW(m.without(k)),
-            Value::MapWB(m) => Value::MapWB(m.without(k)),
-            _ => Value::Unit,
+            Value::MapWW(m) => Ok(Value::MapWW(m.without(alloc, k)?)),
+            Value::MapWB(m) => Ok(Value::MapWB(m.without(alloc, k)?)),
+            _ => Ok(Value::Unit),
         }
     }
 }

@@ -6,16 +6,16 @@ ghost use Rattle.gv_terms.specs.declared.value.Value.TheVariants as val;
 ghost use Rattle.gv_terms.specs.Values.{word_of, bytes_of};
 ghost use Rattle.gv_terms.specs.Meaning.{operate, slice_between};
 
-use crate::map::FiniteMap;
 use crate::operator::Operator;
 use crate::value::{NIL_SLICE, Value};
 use crate::{items, words};
 use gv_base::{List, Name, NoMemory, SliceVal};
+use gv_trees::FiniteMap;
 use std::alloc::Global;
 
 impl Operator {
     /// The value of an operator without parts.
-    pub fn constant(self, alloc: Global) -> Value
+    pub fn constant(self) -> Value
         requires { arity self ≡ 0 }
         ensures { result ≡ operate self [] }
     {
@@ -26,8 +26,8 @@ impl Operator {
             Operator::Nil => Value::Ref(0),
             Operator::NilSlice => Value::SliceS(NIL_SLICE),
             Operator::NoCall => Value::Call(0),
-            Operator::MapWW => Value::MapWW(FiniteMap::new(alloc)),
-            Operator::MapWB => Value::MapWB(FiniteMap::new(alloc)),
+            Operator::MapWW => Value::MapWW(FiniteMap::new()),
+            Operator::MapWB => Value::MapWB(FiniteMap::new()),
             _ => Value::Unit,
         }
     }
@@ -83,7 +83,7 @@ impl Operator {
             }
             Operator::Get => a.held_at(alloc, b.word()),
             Operator::Has => Ok(a.holds_at(b.word())),
-            Operator::Del => Ok(a.copy(alloc)?.map_without(b.word())),
+            Operator::Del => a.map_without(alloc, b.word()),
             Operator::Plus
             | Operator::Minus
             | Operator::BitOr
@@ -141,7 +141,7 @@ impl Operator {
             }
             Operator::Upd => a.with_item(alloc, b.word(), c),
             Operator::Sub => a.items_between(alloc, b.word(), c.word()),
-            Operator::Put => a.copy(alloc)?.map_with(alloc, b.word(), c),
+            Operator::Put => a.map_with(alloc, b.word(), c),
             Operator::Sl => Ok(Value::SliceS(slice_between(a.slice(), b.word(), c.word()))),
             _ => Ok(Value::Unit),
         }

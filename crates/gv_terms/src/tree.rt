@@ -5,10 +5,10 @@ ghost use Rattle.gv_terms.specs.declared.tree.Head.TheVariants as head;
 ghost use Rattle.gv_terms.specs.Ranges.{holds_word};
 ghost use Rattle.gv_terms.specs.Trees.{head_sort};
 
-use crate::item::Item;
 use crate::operator::Operator;
 use crate::sort::Sort;
 use gv_base::{List, Name, NoMemory};
+use gv_trees::Item;
 use std::alloc::Global;
 
 /// What stands at the root of a term: a variable with its sort, or an operator. This project's own.

@@ -4,11 +4,10 @@ ghost use Rattle.std.specs.Prelude.{◌≡◌, ◌↔◌, IfOk, IsTrue};
 ghost use Rattle.gv_terms.specs.declared.value.Value.TheVariants as val;
 ghost use Rattle.gv_terms.specs.Values.{has_sort, sort_of_value, zero_of};
 
-use crate::item::Item;
 use crate::items;
-use crate::map::FiniteMap;
 use crate::sort::Sort;
 use gv_base::{List, Name, NoMemory, SliceVal};
+use gv_trees::{FiniteMap, Item};
 use std::alloc::Global;
 
 /// A value of one of the twelve sorts, or `Unit`, which stands for no reply. This project's own.
@@ -41,8 +40,8 @@ impl Value {
             Value::Words(x) => Ok(Value::Words(copy_list(alloc, x)?)),
             Value::Refs(x) => Ok(Value::Refs(copy_list(alloc, x)?)),
             Value::Blocks(x) => Ok(Value::Blocks(copy_list(alloc, x)?)),
-            Value::MapWW(m) => Ok(Value::MapWW(m.copy(alloc)?)),
-            Value::MapWB(m) => Ok(Value::MapWB(m.copy(alloc)?)),
+            Value::MapWW(m) => Ok(Value::MapWW(m.copy()?)),
+            Value::MapWB(m) => Ok(Value::MapWB(m.copy()?)),
             Value::Ref(r) => Ok(Value::Ref(*r)),
             Value::SliceS(s) => Ok(Value::SliceS(*s)),
             Value::Call(c) => Ok(Value::Call(*c)),
@@ -247,8 +246,8 @@ impl Value {
             Sort::Words => Ok(Value::Words(List::new(alloc))),
             Sort::Refs => Ok(Value::Refs(List::new(alloc))),
             Sort::Blocks => Ok(Value::Blocks(List::new(alloc))),
-            Sort::MapWW => Ok(Value::MapWW(FiniteMap::new(alloc))),
-            Sort::MapWB => Ok(Value::MapWB(FiniteMap::new(alloc))),
+            Sort::MapWW => Ok(Value::MapWW(FiniteMap::new())),
+            Sort::MapWB => Ok(Value::MapWB(FiniteMap::new())),
             Sort::Ref => Ok(Value::Ref(0)),
             Sort::SliceS => Ok(Value::SliceS(NIL_SLICE)),
             Sort::Call => Ok(Value::Call(0)),

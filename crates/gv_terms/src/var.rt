@@ -1,8 +1,8 @@
 //! Variables of terms.
 
-use crate::item::Item;
 use crate::sort::Sort;
 use gv_base::{Name, NoMemory};
+use gv_trees::Item;
 use std::alloc::Global;
 
 /// A name and its sort. This project's own.

@@ -4,9 +4,10 @@ ghost use Rattle.std.specs.Prelude.{◌≡◌, ◌<◌, length, IfOk};
 
 use gv_base::{Code, List, Name, NoMemory, Steps};
 use gv_terms::{
-    Binding, Env, FiniteMap, Head, Operator, RawTerm, ResolveFault, Scope, Sort, Term, TermStore,
-    TermTree, Value, eval, resolve,
+    Binding, Env, Head, Operator, RawTerm, ResolveFault, Scope, Sort, Term, TermStore, TermTree,
+    Value, eval, resolve,
 };
+use gv_trees::FiniteMap;
 use std::alloc::Global;
 use std::marker::Brand;
 use std::sync::ledger::{Blank, Ledger};
@@ -50,9 +51,9 @@ fn put_in(alloc: Global, store: &mut TermStore, scope: &Scope, n: u64) -> Result
 
 // The map of these entries.
 fn map_of(alloc: Global, entries: &[(u64, u64)]) -> Result<Value, NoMemory> {
-    let mut map = FiniteMap::new(alloc);
+    let mut map = FiniteMap::new();
     for (key, item) in entries {
-        map = map.with(*key, *item)?;
+        map = map.with(alloc, *key, *item)?;
     }
     Ok(Value::MapWW(map))
 }

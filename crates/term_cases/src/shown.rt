@@ -3,6 +3,7 @@
 use anyhow::{Result, bail};
 use gv_base::{Name, Refusal};
 use gv_terms::Value;
+use gv_trees::FiniteMap;
 use std::alloc::Global;
 use std::fmt;
 
@@ -20,6 +21,29 @@ impl<'a> fmt::Display for Quoted<'a> {
     }
 }
 
+// A map to words, as a list of pairs.
+fn show_words<W: fmt::Write>(f: &mut fmt::Formatter<W>, map: &FiniteMap<u64>) -> fmt::Result {
+    write!(f, "mapww [")?;
+    for place in 0..map.len() {
+        if let Some((key, item)) = map.entry(place) {
+            let before = if place == 0 { "" } else { ", " };
+            write!(f, "{before}({key}, {item})")?;
+        }
+    }
+    write!(f, "]")
+}
+
+// A map to byte strings, each behind its key.
+fn show_blocks<W: fmt::Write>(f: &mut fmt::Formatter<W>, map: &FiniteMap<Name>) -> fmt::Result {
+    write!(f, "mapwb")?;
+    for place in 0..map.len() {
+        if let Some((key, item)) = map.entry(place) {
+            write!(f, " {key}:{}", Quoted(item))?;
+        }
+    }
+    Ok(())
+}
+
 impl<'a> fmt::Display for Shown<'a> {
     fn fmt<W: fmt::Write>(&self, f: &mut fmt::Formatter<W>) -> fmt::Result {
         match self.0 {
@@ -35,14 +59,8 @@ impl<'a> fmt::Display for Shown<'a> {
                 }
                 Ok(())
             }
-            Value::MapWW(m) => write!(f, "mapww {:?}", m.as_slice()),
-            Value::MapWB(m) => {
-                write!(f, "mapwb")?;
-                for (key, item) in m.as_slice() {
-                    write!(f, " {key}:{}", Quoted(item))?;
-                }
-                Ok(())
-            }
+            Value::MapWW(m) => show_words(f, m),
+            Value::MapWB(m) => show_blocks(f, m),
             Value::Ref(r) => write!(f, "ref {r}"),
             Value::SliceS(s) => {
                 let (object, offset, length, capacity) = (s.object, s.offset, s.length, s.capacity);
