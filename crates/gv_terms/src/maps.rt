@@ -8,7 +8,7 @@ use gv_base::{Name, NoMemory};
 use std::alloc::Global;
 
 impl Value {
-    /// `get(m, k)`
+    /// `get(m, k)`. It takes time by the logarithm of the number of entries.
     pub fn held_at(&self, alloc: Global, k: u64) -> Result<Value, NoMemory>
         ensures { IfOk result (λ v. v ≡ held_at self.now k) }
     {
@@ -22,7 +22,7 @@ impl Value {
         }
     }
 
-    /// `has(m, k)`
+    /// `has(m, k)`, at the same cost.
     pub fn holds_at(&self, k: u64) -> Value
         ensures { result ≡ holds_at self.now k }
     {
@@ -33,7 +33,8 @@ impl Value {
         }
     }
 
-    /// `put(m, k, v)`
+    /// `put(m, k, v)`. It takes time and memory by the logarithm of the number of entries, and shares most of them with
+    /// the map.
     pub fn map_with(&self, alloc: Global, k: u64, v: &Value) -> Result<Value, NoMemory>
         ensures { IfOk result (λ w. w ≡ map_with self.now k v.now) }
     {
@@ -47,7 +48,7 @@ impl Value {
         }
     }
 
-    /// `del(m, k)`
+    /// `del(m, k)`, at the same cost.
     pub fn map_without(&self, alloc: Global, k: u64) -> Result<Value, NoMemory>
         ensures { IfOk result (λ v. v ≡ map_without self.now k) }
     {

@@ -29,7 +29,7 @@ pub enum Value {
 }
 
 impl Value {
-    /// An equal value.
+    /// An equal value. It shares the entries of a map and the bytes of a byte string; lists are copied item by item.
     pub fn copy(&self, alloc: Global) -> Result<Value, NoMemory>
         ensures { IfOk result (λ v. v ≡ self.now) }
     {

@@ -2,7 +2,7 @@
 //!
 //! `operations` makes a specification of that many operations; `nested` one whose operation is allowed under that many `!`;
 //! `shared` one whose operation is allowed under a conjunction as deep, both sides of which are one term; `puts` values that
-//! many `put`s into one map.
+//! many `put`s into one map; `kept` as many, each of whose maps is read once all are made.
 #![tactic(auto)]
 
 ghost use Rattle.std.specs.Prelude.{◌<◌, IsTrue, length};
@@ -92,6 +92,15 @@ fn shared(alloc: Global, count: usize) -> Result<Spec> {
     spec_of(alloc, ops, store)
 }
 
+// The value of a term without variables.
+fn value_of(alloc: Global, store: &TermStore, term: Term) -> Result<Value> {
+    if !has(store, term) {
+        bail!("a term of another store");
+    }
+    let bindings = List::new(alloc);
+    Ok(eval(alloc, store, term, &Env { bindings })?)
+}
+
 // Whether a map into which so many keys are put has the key 0.
 fn puts(alloc: Global, count: usize) -> Result<Value> {
     let mut store = TermStore::new(alloc)?;
@@ -102,18 +111,33 @@ fn puts(alloc: Global, count: usize) -> Result<Value> {
     }
     let key = term(alloc, &mut store, Operator::Number(0), &[])?;
     let held = term(alloc, &mut store, Operator::Has, &[map, key])?;
-    if !has(&store, held) {
-        bail!("a term of another store");
+    value_of(alloc, &store, held)
+}
+
+// Whether each of so many maps, into which one key more is put each, has the key 0.
+fn kept(alloc: Global, count: usize) -> Result<Value> {
+    let mut store = TermStore::new(alloc)?;
+    let mut maps = Vec::new(alloc);
+    let mut map = term(alloc, &mut store, Operator::MapWW, &[])?;
+    for number in 0..count {
+        let key = term(alloc, &mut store, Operator::Number(number as u64), &[])?;
+        map = term(alloc, &mut store, Operator::Put, &[map, key, key])?;
+        maps.push(map)?;
     }
-    let bindings = List::new(alloc);
-    Ok(eval(alloc, &store, held, &Env { bindings })?)
+    let key = term(alloc, &mut store, Operator::Number(0), &[])?;
+    let mut all = term(alloc, &mut store, Operator::True, &[])?;
+    for map in maps {
+        let held = term(alloc, &mut store, Operator::Has, &[map, key])?;
+        all = term(alloc, &mut store, Operator::And, &[all, held])?;
+    }
+    value_of(alloc, &store, all)
 }
 
 fn main(rt: HostRuntime) -> Result<()> {
     let alloc = rt.alloc();
     let mut words = env::args(&rt)?.skip(1);
     let (Some(what), Some(count)) = (words.next(), words.next()) else {
-        bail!("spec_bench operations|nested|shared|puts COUNT");
+        bail!("spec_bench operations|nested|shared|puts|kept COUNT");
     };
     let count = count.as_str().parse::<usize>()?;
     match what.as_str() {
@@ -121,7 +145,8 @@ fn main(rt: HostRuntime) -> Result<()> {
         "nested" => println!(&rt; "{} operations", nested(alloc, count)?.ops.len())?,
         "shared" => println!(&rt; "{} operations", shared(alloc, count)?.ops.len())?,
         "puts" => println!(&rt; "{:?}", puts(alloc, count)?)?,
-        _ => bail!("spec_bench operations|nested|shared|puts COUNT"),
+        "kept" => println!(&rt; "{:?}", kept(alloc, count)?)?,
+        _ => bail!("spec_bench operations|nested|shared|puts|kept COUNT"),
     }
     Ok(())
 }
