@@ -10,7 +10,7 @@ use Rattle.gv_terms.specs.Trees.{sort_of, value_under}
 use Rattle.gv_resources.specs.Kinds as kind
 use Rattle.gv_resources.specs.Ghost.{Owned, Sharing}
 use Rattle.gv_assertions.specs.Atoms.{Atom, Owns}
-use Rattle.gv_assertions.specs.Ranges.{IsValuation}
+use Rattle.gv_terms.specs.Ranges.{IsValuation}
 use Rattle.gv_assertions.specs.Standing.{AreTrueUnder, valued, number_under}
 use Rattle.gv_seats.specs.Paths.{Path, Closed, number}
 use Rattle.gv_seats.specs.Seats.{Proof}

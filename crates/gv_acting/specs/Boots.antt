@@ -15,7 +15,7 @@ use Rattle.gv_resources.specs.Kinds as kind
 use Rattle.gv_resources.specs.Pieces.{Have, Piece}
 use Rattle.gv_resources.specs.Ghost.{Ghost, Shared}
 use Rattle.gv_assertions.specs.Atoms.{Atom}
-use Rattle.gv_assertions.specs.Ranges.{IsValuation}
+use Rattle.gv_terms.specs.Ranges.{IsValuation}
 use Rattle.gv_assertions.specs.Standing.{AreTrueUnder, valued, number_under}
 use Rattle.gv_seats.specs.Paths.{Path, Recovers, Opened}
 use Rattle.gv_seats.specs.Seats.{Proof, Seat, of_locks}

@@ -1,4 +1,3 @@
 pub mod Lists
 pub mod Kept
 pub mod Ranges
-pub mod TermValues

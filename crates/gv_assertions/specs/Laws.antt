@@ -1,13 +1,9 @@
 -- What holds of assertions that a piece stands for.
-use Rattle.std.specs.Prelude.{◌≡◌, ◌↔◌, ℕ, ◌<◌, ◌≤◌, Bool, true, List, [], ◌∷◌, ◌++◌, Some}
-use Rattle.gv_terms.specs.declared.sort.Sort.{Sort}
+use Rattle.std.specs.Prelude.{◌↔◌, ℕ, ◌<◌, ◌≤◌, Bool, List, [], ◌∷◌, ◌++◌}
 use Rattle.gv_terms.specs.declared.tree.TermTree.{TermTree}
 use Rattle.gv_terms.specs.declared.value.Env.{Env}
-use Rattle.gv_terms.specs.Ranges.{numbers_are_words}
-use Rattle.gv_terms.specs.Trees.{sort_of, value_under}
 use Rattle.gv_resources.specs.Kinds.{Kind}
 use Rattle.gv_resources.specs.Pieces.{Resource, Piece, part_of}
-use Rattle.gv_assertions.specs.Ranges.{IsPossible, IsValuation}
 use Rattle.gv_assertions.specs.Atoms.{Atom, Each, Predicate, Takes}
 use Rattle.gv_assertions.specs.Standing.{AreParts, StandsFor, StandForAll, IsNoneOf, indexed, number_under}
 use Rattle.gv_assertions.specs.Kept.{AreOfKinds}
@@ -72,9 +68,3 @@ pub record RangeLaws (preds : List Predicate) : Type 0 where
 
 abbrev pub RangesLaw : Type 0
 RangesLaw = (preds : List Predicate) → RangeLaws preds
-
--- ---- values of terms
-
--- the value of a term that has a sort, and whose numbers are words, can be, where those of its variables can
-abbrev pub TermValuesLaw : Type 0
-TermValuesLaw = (env : Env) (t : TermTree) (s : Sort) → IsValuation env → sort_of t ≡ Some s → numbers_are_words t ≡ true → IsPossible (value_under env t)

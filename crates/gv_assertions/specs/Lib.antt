@@ -1,5 +1,4 @@
 pub mod Atoms
-pub mod Ranges
 pub mod Standing
 pub mod Kept
 pub mod Laws

@@ -12,7 +12,7 @@ use Rattle.gv_atomic.specs.Choices.{bound, binds}
 use Rattle.gv_resources.specs.Kinds as kind
 use Rattle.gv_resources.specs.Kinds.{Kind, item_kind}
 use Rattle.gv_resources.specs.Pieces.{Resource, Have, Piece, sum_below}
-use Rattle.gv_assertions.specs.Ranges.{IsPossible}
+use Rattle.gv_terms.specs.Ranges.{IsInRange}
 use Rattle.gv_assertions.specs.Atoms.{Atom, Owns, Slice, Spare, Instance, Each, Case, Predicate, facts_of, atoms_of}
 
 abbrev pub valued : Env → List TermTree → List Value
@@ -35,7 +35,7 @@ abbrev pub AreValuesOf : List Var → List Value → Type 0
 AreValuesOf [] [] = Unit {0}
 AreValuesOf [] (v ∷ values) = ⊥
 AreValuesOf (x ∷ vars) [] = ⊥
-AreValuesOf (x ∷ vars) (v ∷ values) = (has_sort v x.sort ≡ true) × IsPossible v × AreValuesOf vars values
+AreValuesOf (x ∷ vars) (v ∷ values) = (has_sort v x.sort ≡ true) × IsInRange v × AreValuesOf vars values
 
 abbrev pub names_of : List Var → List (List ℕ)
 names_of vars = map (λ x. x.name) vars

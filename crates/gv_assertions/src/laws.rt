@@ -1,6 +1,6 @@
 //! Laws of the definitions in this crate. Each function does nothing: its contract is the law.
 
-ghost use Rattle.gv_assertions.specs.Laws.{ListsLaw, PartsLaw, RangesLaw, TermValuesLaw};
+ghost use Rattle.gv_assertions.specs.Laws.{ListsLaw, PartsLaw, RangesLaw};
 
 /// Assertions stand in any order, and lists of them are put together and parted.
 pub fn list_laws()
@@ -16,9 +16,4 @@ pub fn kept_parts()
 /// Numbers come out of ranges and go back; ranges are split and joined.
 pub fn range_laws()
     ensures { RangesLaw }
-{}
-
-/// Terms have values that can be, where their variables have.
-pub fn term_values()
-    ensures { TermValuesLaw }
 {}

@@ -3,4 +3,4 @@
 
 mod laws;
 
-pub use laws::{kept_parts, list_laws, range_laws, term_values};
+pub use laws::{kept_parts, list_laws, range_laws};

@@ -7,7 +7,8 @@ use Rattle.gv_axioms.specs.Table.{table}
 use Rattle.gv_terms.specs.declared.tree.TermTree.{TermTree}
 use Rattle.gv_terms.specs.declared.value.Env.{Env}
 use Rattle.gv_axioms.specs.Instances.{numbered, over_parts, instance_of}
-use Rattle.gv_axioms.specs.Truth.{IsTrueUnder, IsValuation, AreTerms, IsTrue, AxiomsAreTrue}
+use Rattle.gv_terms.specs.Ranges.{IsValuation}
+use Rattle.gv_axioms.specs.Truth.{IsTrueUnder, AreTerms, IsTrue, AxiomsAreTrue}
 use Rattle.gv_axioms.proofs.Forms.{reached}
 use Rattle.gv_axioms.proofs.Worth.{Holds}
 use Rattle.gv_axioms.proofs.Fillings.{is_true, at_place}

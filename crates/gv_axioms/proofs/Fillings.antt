@@ -17,7 +17,7 @@ use Rattle.gv_terms.specs.Sorts.{item_sort, entry_sort}
 use Rattle.gv_terms.specs.Values.{zero_of, sort_of_value, is_sort}
 use Rattle.gv_terms.specs.Meaning.{operate}
 use Rattle.gv_terms.specs.Trees.{sort_of, value_under}
-use Rattle.gv_terms.specs.Ranges.{IsInRange, numbers_are_words}
+use Rattle.gv_terms.specs.Ranges.{IsValuation, IsInRange, numbers_are_words}
 use Rattle.gv_terms.proofs.Valued.{value_apply}
 use Rattle.gv_terms.proofs.ValueSorts.{values_have_sorts}
 use Rattle.gv_terms.proofs.ValueRanges.{values_in_range}
@@ -27,7 +27,7 @@ use Rattle.gv_axioms.specs.Schema.{Axiom, Pattern, Premise}
 use Rattle.gv_axioms.specs.Schema.Pattern.{part, literal, copied, zero as none_of, over0, over1, over2, over3}
 use Rattle.gv_axioms.specs.Filling.{with_some, made, held, zero_term, sorted, sort_at, filled, as_formula, formula, fits, all_fit}
 use Rattle.gv_axioms.specs.Instances.{is_asked, asked_first, asked, over_parts}
-use Rattle.gv_axioms.specs.Truth.{IsTrueUnder, IsValuation, AreTerms, IsTrue}
+use Rattle.gv_axioms.specs.Truth.{IsTrueUnder, AreTerms, IsTrue}
 use Rattle.gv_axioms.proofs.Worth.{Parts, worth, IsMade, Fact, Facts, IsAsked, AreMet, AreInRange, Holds}
 use Rattle.gv_axioms.proofs.Forms.{reached, there, inner, chosen, of_sort, just, of_zero, list_held, map_held, made_is, made_value, operator_of, zero_value, zero_made, empty_value}
 

@@ -88,7 +88,7 @@ set_as_was _ i s e is = absurd cc
 pub not_too_long : (x : Value) (s : Sort) → IsListOf x s → IsInRange x → word_of (length_of x) < too_long
 not_too_long (val.Bytes x) s e is = is.0
 not_too_long (val.Words x) s e is = is.0
-not_too_long (val.Refs x) s e is = is.0
+not_too_long (val.Refs x) s e is = is
 not_too_long (val.Blocks x) s e is = is.0
 not_too_long _ s e is = absurd cc
 
@@ -106,7 +106,7 @@ part_length x a b f g h = ap (λ n. val.Word n) (length-drop a (take b x) ∙ ap
 between_length : (x : Value) (a b : ℕ) (s : Sort) → IsListOf x s → IsInRange x → a ≤ b → b ≤ word_of (length_of x) → length_of (items_between x a b) ≡ val.Word (words.minus b a)
 between_length (val.Bytes x) a b s e is f g = part_length x a b f g is.0
 between_length (val.Words x) a b s e is f g = part_length x a b f g is.0
-between_length (val.Refs x) a b s e is f g = part_length x a b f g is.0
+between_length (val.Refs x) a b s e is f g = part_length x a b f g is
 between_length (val.Blocks x) a b s e is f g = part_length x a b f g is.0
 between_length _ a b s e is f g = absurd cc
 
@@ -118,7 +118,7 @@ part_item x d a b i f g h lt =
 between_item : (x : Value) (a b i : ℕ) (s : Sort) → IsListOf x s → IsInRange x → a ≤ b → b ≤ word_of (length_of x) → i < words.minus b a → item_at (items_between x a b) i ≡ item_at x (words.plus a i)
 between_item (val.Bytes x) a b i s e is f g lt = ap (λ n. val.Word n) (part_item x 0 a b i f g is.0 lt)
 between_item (val.Words x) a b i s e is f g lt = ap (λ n. val.Word n) (part_item x 0 a b i f g is.0 lt)
-between_item (val.Refs x) a b i s e is f g lt = ap (λ n. val.Ref n) (part_item x 0 a b i f g is.0 lt)
+between_item (val.Refs x) a b i s e is f g lt = ap (λ n. val.Ref n) (part_item x 0 a b i f g is lt)
 between_item (val.Blocks x) a b i s e is f g lt = ap (λ n. val.Bytes n) (part_item x [] a b i f g is.0 lt)
 between_item _ a b i s e is f g lt = absurd cc
 
@@ -139,7 +139,7 @@ both_length : (x y : Value) (s : Sort) → IsListOf x s → sort_of_value x ≡ 
     → length_of (both_lists x y) ≡ val.Word (words.plus (word_of (length_of x)) (word_of (length_of y)))
 both_length (val.Bytes x) (val.Bytes y) s e same is too h = joined_length x y is.0 too.0 h
 both_length (val.Words x) (val.Words y) s e same is too h = joined_length x y is.0 too.0 h
-both_length (val.Refs x) (val.Refs y) s e same is too h = joined_length x y is.0 too.0 h
+both_length (val.Refs x) (val.Refs y) s e same is too h = joined_length x y is too h
 both_length (val.Blocks x) (val.Blocks y) s e same is too h = joined_length x y is.0 too.0 h
 both_length _ _ s e same is too h = absurd cc
 
@@ -150,7 +150,7 @@ both_first : (x y : Value) (i : ℕ) (s : Sort) → IsListOf x s → sort_of_val
     → item_at (both_lists x y) i ≡ item_at x i
 both_first (val.Bytes x) (val.Bytes y) i s e same is too h lt = ap (λ n. val.Word n) (joined_first x y 0 i is.0 too.0 h lt)
 both_first (val.Words x) (val.Words y) i s e same is too h lt = ap (λ n. val.Word n) (joined_first x y 0 i is.0 too.0 h lt)
-both_first (val.Refs x) (val.Refs y) i s e same is too h lt = ap (λ n. val.Ref n) (joined_first x y 0 i is.0 too.0 h lt)
+both_first (val.Refs x) (val.Refs y) i s e same is too h lt = ap (λ n. val.Ref n) (joined_first x y 0 i is too h lt)
 both_first (val.Blocks x) (val.Blocks y) i s e same is too h lt = ap (λ n. val.Bytes n) (joined_first x y [] i is.0 too.0 h lt)
 both_first _ _ i s e same is too h lt = absurd cc
 
@@ -163,7 +163,7 @@ both_second : (x y : Value) (i : ℕ) (s : Sort) → IsListOf x s → sort_of_va
     → item_at (both_lists x y) (words.plus (word_of (length_of x)) i) ≡ item_at y i
 both_second (val.Bytes x) (val.Bytes y) i s e same is too h lt = ap (λ n. val.Word n) (joined_second x y 0 i is.0 too.0 h lt)
 both_second (val.Words x) (val.Words y) i s e same is too h lt = ap (λ n. val.Word n) (joined_second x y 0 i is.0 too.0 h lt)
-both_second (val.Refs x) (val.Refs y) i s e same is too h lt = ap (λ n. val.Ref n) (joined_second x y 0 i is.0 too.0 h lt)
+both_second (val.Refs x) (val.Refs y) i s e same is too h lt = ap (λ n. val.Ref n) (joined_second x y 0 i is too h lt)
 both_second (val.Blocks x) (val.Blocks y) i s e same is too h lt = ap (λ n. val.Bytes n) (joined_second x y [] i is.0 too.0 h lt)
 both_second _ _ i s e same is too h lt = absurd cc
 

@@ -5,7 +5,7 @@ use Rattle.gv_terms.specs.declared.tree.TermTree.{TermTree}
 use Rattle.gv_terms.specs.declared.value.Value.TheVariants as val
 use Rattle.gv_terms.specs.declared.value.Env.{Env}
 use Rattle.gv_terms.specs.Trees.{sort_of, value_under}
-use Rattle.gv_terms.specs.Ranges.{IsInRange, numbers_are_words}
+use Rattle.gv_terms.specs.Ranges.{IsValuation, numbers_are_words}
 use Rattle.gv_axioms.specs.Schema.{Axiom}
 use Rattle.gv_axioms.specs.Instances.{over_parts}
 use Rattle.gv_axioms.specs.Table.{table}
@@ -13,10 +13,6 @@ use Rattle.gv_axioms.specs.Table.{table}
 -- a formula is true under a valuation
 abbrev pub IsTrueUnder : Env → TermTree → Type 0
 IsTrueUnder env t = value_under env t ≡ val.Bool true
-
--- a valuation gives values that its sorts have
-abbrev pub IsValuation : Env → Type 0
-IsValuation env = All (λ b. IsInRange b.value) env.bindings
 
 -- the premises are enough for the conclusion: under every valuation that meets them, it is met
 abbrev pub Entails : List TermTree → TermTree → Type 0

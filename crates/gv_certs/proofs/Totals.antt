@@ -18,14 +18,14 @@ use Rattle.gv_terms.specs.declared.value.Env.{Env}
 use Rattle.gv_terms.specs.Values.{word_of}
 use Rattle.gv_terms.specs.Sorts.{sort_given}
 use Rattle.gv_terms.specs.Trees.{rooted, root_of, branches_of, sort_of, all_sorts, with_sorts, value_under}
-use Rattle.gv_terms.specs.Ranges.{numbers_are_words, is_word_if_number}
+use Rattle.gv_terms.specs.Ranges.{IsValuation, numbers_are_words, is_word_if_number}
 use Rattle.gv_terms.proofs.NodeSorts.{sort_apply}
 use Rattle.gv_terms.proofs.Numbers.{numbers_apply}
 use Rattle.gv_terms.proofs.Trees.{same_root, same_parts}
 use Rattle.gv_terms.proofs.Valued.{value_apply}
 use Rattle.gv_terms.proofs.ValueRanges.{values_in_range}
 use Rattle.gv_words.specs.Words.{words, plus, minus}
-use Rattle.gv_axioms.specs.Truth.{IsTrueUnder, IsValuation, AreTerms}
+use Rattle.gv_axioms.specs.Truth.{IsTrueUnder, AreTerms}
 use Rattle.gv_axioms.proofs.Values.{below, yes, less, at_most}
 use Rattle.gv_certs.specs.Trees.{contains, parts_under, and_pass, over_two, tree_eq}
 use Rattle.gv_certs.specs.Known.{is_known}

@@ -20,7 +20,8 @@ use Rattle.gv_terms.specs.Values.{truth_of, word_of, is_sort}
 use Rattle.gv_terms.specs.Trees.{value_under, sort_of}
 use Rattle.gv_terms.specs.declared.sort.Sort.TheVariants as sort
 use Rattle.gv_terms.proofs.Valued.{value_apply}
-use Rattle.gv_axioms.specs.Truth.{IsTrueUnder, IsValuation, AreTerms, Entails}
+use Rattle.gv_terms.specs.Ranges.{IsValuation}
+use Rattle.gv_axioms.specs.Truth.{IsTrueUnder, AreTerms, Entails}
 use Rattle.gv_axioms.specs.Instances.{instance_of}
 use Rattle.gv_axioms.proofs.AllTrue.{instances_are_true}
 use Rattle.gv_axioms.proofs.Values.{yes, less, at_most, is_less, is_at_most, not_less, not_at_most}

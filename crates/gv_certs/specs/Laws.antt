@@ -5,7 +5,8 @@ use Rattle.gv_terms.specs.declared.tree.TermTree.{TermTree}
 use Rattle.gv_terms.specs.declared.tree.TermTree.TheVariants as tree
 use Rattle.std.specs.List.{All}
 use Rattle.gv_terms.specs.declared.value.Env.{Env}
-use Rattle.gv_axioms.specs.Truth.{AreTerms, Entails, IsValuation, IsTrueUnder}
+use Rattle.gv_terms.specs.Ranges.{IsValuation}
+use Rattle.gv_axioms.specs.Truth.{AreTerms, Entails, IsTrueUnder}
 use Rattle.gv_certs.specs.declared.cause.Cause.{Cause}
 use Rattle.gv_certs.specs.Proving.{Leaf, known, compute, by_axiom, subst_in, subst, contra, Certificate, by, linear, cases, then, Proves, Fails}
 

@@ -21,7 +21,7 @@ use Rattle.gv_resources.specs.Pieces.{Piece}
 use Rattle.gv_resources.specs.Ghost.{Ghost}
 use Rattle.gv_resources.proofs.Fitting.{fits_less}
 use Rattle.gv_assertions.specs.Atoms.{Atom, Instance, Case, Predicate, Takes, here, there, facts_of, atoms_of}
-use Rattle.gv_assertions.specs.Ranges.{IsValuation}
+use Rattle.gv_terms.specs.Ranges.{IsValuation}
 use Rattle.gv_assertions.specs.Standing.{StandsFor, StandForAll, AreParts, AreTrueUnder, AreValuesOf, instance, both, none, valued, case_env, names_of}
 use Rattle.gv_assertions.proofs.Lists.{front, parted, joined}
 use Rattle.gv_instances.specs.Instances.{Given, AreSorted, binding_of, put_in_all, given_under, AreAllApart}

@@ -21,11 +21,11 @@ use Rattle.gv_lang.specs.Tree.{Expr}
 use Rattle.gv_lang.specs.Values.{values, also}
 use Rattle.gv_resources.specs.Pieces.{Piece}
 use Rattle.gv_assertions.specs.Atoms.{Atom, Predicate}
-use Rattle.gv_assertions.specs.Ranges.{IsValuation}
+use Rattle.gv_terms.specs.Ranges.{IsValuation}
 use Rattle.gv_assertions.specs.Standing.{StandForAll, AreValuesOf, names_of, both, none}
 use Rattle.gv_assertions.specs.Laws.{Parted}
 use Rattle.gv_assertions.proofs.Lists.{front, parted}
-use Rattle.gv_assertions.proofs.TermValues.{term_values}
+use Rattle.gv_terms.proofs.ValueRanges.{values_in_range}
 use Rattle.gv_instances.specs.Instances.{Given, AreSorted, binding_of, given_under}
 use Rattle.gv_instances.specs.Agreeing.{AgreeOnVars}
 use Rattle.gv_instances.proofs.Sorts.{sort_itself}
@@ -82,14 +82,14 @@ starts_agree env given sorted n s among =
 -- the values of all terms can be
 pub starts_valued : (env : Env) (given : List Given) → AreSorted given → AreTerms given → IsValuation env → IsValuation (start_values env given)
 starts_valued env [] sorted terms valuation k d l = absurd (omega (arith, l))
-starts_valued env (g ∷ given) sorted terms valuation zero d l = term_values env g.term g.var.sort valuation sorted.0 terms.0
+starts_valued env (g ∷ given) sorted terms valuation zero d l = values_in_range env g.term g.var.sort valuation sorted.0 terms.0
 starts_valued env (g ∷ given) sorted terms valuation (suc k) d l = starts_valued env given sorted.1 terms.1 valuation k d (omega (arith, l))
 
 -- as values of the variables
 pub values_are : (env : Env) (given : List Given) → AreSorted given → AreTerms given → IsValuation env → AreValuesOf (vars_of given) (map (λ g. value_under env g.term) given)
 values_are env [] sorted terms valuation = tt
 values_are env (g ∷ given) sorted terms valuation =
-    (its_sort g sorted.0, term_values env g.term g.var.sort valuation sorted.0 terms.0, values_are env given sorted.1 terms.1 valuation)
+    (its_sort g sorted.0, values_in_range env g.term g.var.sort valuation sorted.0 terms.0, values_are env given sorted.1 terms.1 valuation)
   where
     its_sort : (g : Given) → sort_of g.term ≡ Some g.var.sort → has_sort (value_under env g.term) g.var.sort ≡ true
     its_sort g e = ap (λ (o : Option Sort). is_sort g.var.sort o) (values_have_sorts env g.term g.var.sort e) ∙ sort_itself g.var.sort

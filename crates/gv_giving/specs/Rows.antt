@@ -5,12 +5,11 @@ use Rattle.gv_base.specs.declared.answers.Place.{Place}
 use Rattle.gv_terms.specs.declared.tree.TermTree.{TermTree}
 use Rattle.gv_terms.specs.declared.value.Env.{Env}
 use Rattle.gv_terms.specs.declared.var.Var.{Var}
-use Rattle.gv_terms.specs.Ranges.{numbers_are_words}
+use Rattle.gv_terms.specs.Ranges.{IsValuation, numbers_are_words}
 use Rattle.gv_lang.specs.Tree as lang
 use Rattle.gv_lang.specs.Tree.{Expr, Do, Return, Proc, Program}
 use Rattle.gv_lang.specs.Todo.{Todo, Run, put}
 use Rattle.gv_resources.specs.Ghost.{Shared}
-use Rattle.gv_assertions.specs.Ranges.{IsValuation}
 use Rattle.gv_assertions.specs.Standing.{AreTrueUnder}
 use Rattle.gv_assertions.specs.Atoms.{Atom, Takes, facts_of, atoms_of}
 use Rattle.gv_instances.specs.Instances.{Given, AreSorted, put_in_all, put_in_atoms, AreAllApart}

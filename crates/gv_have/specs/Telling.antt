@@ -5,7 +5,8 @@ use Rattle.gv_terms.specs.declared.var.Var.{Var}
 use Rattle.gv_terms.specs.declared.tree.RawTerm.{RawTerm}
 use Rattle.gv_terms.specs.declared.tree.TermTree.{TermTree}
 use Rattle.gv_terms.specs.declared.value.Env.{Env}
-use Rattle.gv_axioms.specs.Truth.{IsValuation, IsTrueUnder}
+use Rattle.gv_terms.specs.Ranges.{IsValuation}
+use Rattle.gv_axioms.specs.Truth.{IsTrueUnder}
 use Rattle.gv_certs.specs.declared.cause.Cause.TheVariants as cause
 use Rattle.gv_certs.specs.declared.cert.Cert.{Cert}
 use Rattle.gv_certs.specs.declared.fault.RuleFault.{RuleFault}

@@ -17,7 +17,7 @@ use Rattle.gv_atomic.specs.Choices.{binds}
 use Rattle.gv_lang.specs.Threads.{Frame}
 use Rattle.gv_resources.specs.Pieces.{Piece}
 use Rattle.gv_assertions.specs.Atoms.{Predicate}
-use Rattle.gv_assertions.specs.Ranges.{IsPossible, IsValuation}
+use Rattle.gv_terms.specs.Ranges.{IsInRange, IsValuation}
 use Rattle.gv_assertions.specs.Standing.{AreTrueUnder}
 use Rattle.gv_instances.specs.Agreeing.{AgreeOnVars, AreClosed}
 use Rattle.gv_instances.proofs.Agreeing.{closed_law}
@@ -57,7 +57,7 @@ new_value env x v sorted =
     value_variable (with_value env x v) x.name x.sort ∙ found_first (record { name = x.name; value = v }) env.bindings x.name x.sort
     ∙ is_chosen (bytes_eq x.name x.name) (has_sort v x.sort) v (looked_up env x.name x.sort) ((bytes_eq-Decides x.name x.name).1 refl) sorted
 
-pub valued_one : (env : Env) (x : Var) (v : Value) → IsPossible v → IsValuation env → IsValuation (with_value env x v)
+pub valued_one : (env : Env) (x : Var) (v : Value) → IsInRange v → IsValuation env → IsValuation (with_value env x v)
 valued_one env x v can valuation zero d l = can
 valued_one env x v can valuation (suc k) d l = valuation k d (omega (arith, l))
 

@@ -27,7 +27,7 @@ use Rattle.gv_resources.specs.Pieces.{Have, Piece, Fits, sum_below}
 use Rattle.gv_resources.specs.Ghost.{Ghost, Mode, Shared}
 use Rattle.gv_resources.specs.Told.{Shape, told, object_at, cells_in, locked_in, is_in_table}
 use Rattle.gv_assertions.specs.Atoms.{Instance, Predicate}
-use Rattle.gv_assertions.specs.Ranges.{IsValuation}
+use Rattle.gv_terms.specs.Ranges.{IsValuation}
 use Rattle.gv_assertions.specs.Standing.{StandsFor, StandForAll, AreTrueUnder, valued}
 use Rattle.gv_instances.specs.Agreeing.{AgreeOnVars}
 use Rattle.gv_seats.specs.Paths.{Path, Bracket, Closed}

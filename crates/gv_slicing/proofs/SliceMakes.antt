@@ -38,7 +38,7 @@ use Rattle.gv_lang.specs.Step.{Stepped, GoesOn, stepped, settled}
 use Rattle.gv_resources.specs.Told.{value_of}
 use Rattle.gv_resources.proofs.Sums.{with_piece}
 use Rattle.gv_assertions.specs.Atoms.{Slice, Spare}
-use Rattle.gv_assertions.specs.Ranges.{IsPossible}
+use Rattle.gv_terms.specs.Ranges.{IsInRange}
 use Rattle.gv_assertions.specs.Standing.{StandsFor, slice, spare, both, none, AreTrueUnder, IsTrueUnder, AreValuesOf, OwnsSlice, OwnsSpare, items_of}
 use Rattle.gv_assertions.proofs.Lists.{joined}
 use Rattle.gv_instances.proofs.Agreeing.{closed_law}
@@ -83,7 +83,7 @@ zeros_sort item.Ref n = refl
 few_zeros : (n : ℕ) → n < too_long → length (replicate n zero) < too_long
 few_zeros n l = omega (arith, length-replicate n zero, l)
 
-zeros_can : (k : ItemKind) (n : ℕ) → n < too_long → IsPossible (zeros k n)
+zeros_can : (k : ItemKind) (n : ℕ) → n < too_long → IsInRange (zeros k n)
 zeros_can item.Byte n l = (few_zeros n l, All-replicate (λ b. b < 256) n 0 (omega arith))
 zeros_can item.Word n l = (few_zeros n l, All-replicate (λ b. b < words) n 0 (omega arith))
 zeros_can item.Ref n l = few_zeros n l

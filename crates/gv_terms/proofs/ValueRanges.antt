@@ -27,7 +27,7 @@ use Rattle.gv_base.specs.declared.slice_val.SliceVal.{SliceVal}
 use Rattle.gv_terms.specs.Values.{nil_slice, zero_of, has_sort, word_of, bytes_of, ref_of, slice_of}
 use Rattle.gv_terms.specs.Meaning.{operate, part, part_of, joined, too_long, length_of, item_at, with_item, items_between, both_lists, all_zero, held_at, holds_at, map_with, map_without, slice_between}
 use Rattle.gv_terms.specs.Trees.{sort_of, all_sorts, value_under}
-use Rattle.gv_terms.specs.Ranges.{references, IsList, AreBytes, IsMap, IsSlice, IsInRange, is_word_if_number, numbers_are_words}
+use Rattle.gv_terms.specs.Ranges.{IsList, AreBytes, IsMap, IsSlice, IsInRange, IsValuation, is_word_if_number, numbers_are_words}
 use Rattle.gv_terms.specs.declared.stored.Stored.{Stored}
 use Rattle.gv_terms.specs.Store.{tree_at, trees_of, AreSound}
 use Rattle.gv_terms.specs.Evaluation.{some_node}
@@ -121,7 +121,7 @@ put64_in x a is = pick (nat_lt (length x) 8) refl
 -- Slices.
 
 no_slice : IsSlice nil_slice
-no_slice = (lit< tt, lit< tt, omega arith)
+no_slice = (lit< tt, omega arith)
 
 -- Values.
 
@@ -136,19 +136,15 @@ bytes_in : (v : Value) → IsInRange v → AreBytes (bytes_of v)
 bytes_in (val.Bytes x) is = is
 bytes_in _ is = nothing (λ b. b < 256)
 
-ref_below : (v : Value) → IsInRange v → ref_of v < references
-ref_below (val.Ref r) is = is
-ref_below _ is = lit< tt
-
 slice_in : (v : Value) → IsInRange v → IsSlice (slice_of v)
 slice_in (val.SliceS s) is = is
 slice_in _ is = no_slice
 
 length_below : (s : SliceVal) → IsSlice s → s.length < words.words
-length_below s is = omega (arith, is.1, is.2)
+length_below s is = omega (arith, is.0, is.1)
 
 capacity_below : (s : SliceVal) → IsSlice s → s.capacity < words.words
-capacity_below s is = omega (arith, is.1)
+capacity_below s is = omega (arith, is.0)
 
 between_in : (s : SliceVal) (a b : ℕ) → IsSlice s → IsSlice (slice_between s a b)
 between_in s a b is = pick (nat_le a b) (nat_le b s.capacity) refl refl
@@ -157,42 +153,42 @@ between_in s a b is = pick (nat_le a b) (nat_le b s.capacity) refl refl
     pick true true e f =
         let low = leb-true a b e in
         let high = leb-true b s.capacity f in
-        (is.0, omega (arith, low, high, is.1), omega (arith, high))
+        (omega (arith, low, high, is.0), omega (arith, high))
     pick true false e f = no_slice
     pick false q e f = no_slice
 
 length_in : (v : Value) → IsInRange v → IsInRange (length_of v)
 length_in (val.Bytes x) is = omega (arith, is.0)
 length_in (val.Words x) is = omega (arith, is.0)
-length_in (val.Refs x) is = omega (arith, is.0)
+length_in (val.Refs x) is = omega (arith, is)
 length_in (val.Blocks x) is = omega (arith, is.0)
 length_in _ is = tt
 
 item_at_in : (v : Value) (i : ℕ) → IsInRange v → IsInRange (item_at v i)
 item_at_in (val.Bytes x) i is = omega (arith, item_in (λ b. b < 256) x i 0 (lit< tt) is.1)
 item_at_in (val.Words x) i is = item_in (λ n. n < words.words) x i 0 (lit< tt) is.1
-item_at_in (val.Refs x) i is = item_in (λ r. r < references) x i 0 (lit< tt) is.1
+item_at_in (val.Refs x) i is = tt
 item_at_in (val.Blocks x) i is = item_in AreBytes x i [] (nothing (λ b. b < 256)) is.1
 item_at_in _ i is = tt
 
 with_item_in : (v : Value) (i : ℕ) (w : Value) → IsInRange v → IsInRange w → IsInRange (with_item v i w)
 with_item_in (val.Bytes x) i w is too = set_in (λ b. b < 256) x i (word_of w % 256) is (omega arith)
 with_item_in (val.Words x) i w is too = set_in (λ n. n < words.words) x i (word_of w) is (word_below w too)
-with_item_in (val.Refs x) i w is too = set_in (λ r. r < references) x i (ref_of w) is (ref_below w too)
+with_item_in (val.Refs x) i w is too = omega (arith, is, length-set x i (ref_of w))
 with_item_in (val.Blocks x) i w is too = set_in AreBytes x i (bytes_of w) is (bytes_in w too)
 with_item_in _ i w is too = tt
 
 items_between_in : (v : Value) (a b : ℕ) → IsInRange v → IsInRange (items_between v a b)
 items_between_in (val.Bytes x) a b is = part_in (λ c. c < 256) x a b is
 items_between_in (val.Words x) a b is = part_in (λ n. n < words.words) x a b is
-items_between_in (val.Refs x) a b is = part_in (λ r. r < references) x a b is
+items_between_in (val.Refs x) a b is = (part_in (λ r. Unit {0}) x a b (is, λ k d l. tt)).0
 items_between_in (val.Blocks x) a b is = part_in AreBytes x a b is
 items_between_in _ a b is = tt
 
 both_lists_in : (v w : Value) → IsInRange v → IsInRange w → IsInRange (both_lists v w)
 both_lists_in (val.Bytes x) (val.Bytes y) is too = joined_in (λ b. b < 256) x y is too
 both_lists_in (val.Words x) (val.Words y) is too = joined_in (λ n. n < words.words) x y is too
-both_lists_in (val.Refs x) (val.Refs y) is too = joined_in (λ r. r < references) x y is too
+both_lists_in (val.Refs x) (val.Refs y) is too = (joined_in (λ r. Unit {0}) x y (is, λ k d l. tt) (too, λ k d l. tt)).0
 both_lists_in (val.Blocks x) (val.Blocks y) is too = joined_in AreBytes x y is too
 both_lists_in _ _ is too = tt
 
@@ -265,9 +261,9 @@ module _ (ss : List Sort) (vs : List Value) (r : Sort) (all : All IsInRange vs) 
   operate_in (op.Number n) f e = ltb-true n words.words f
   operate_in op.True f e = tt
   operate_in op.False f e = tt
-  operate_in op.Nil f e = lit< tt
+  operate_in op.Nil f e = tt
   operate_in op.NilSlice f e = no_slice
-  operate_in op.NoCall f e = lit< tt
+  operate_in op.NoCall f e = tt
   operate_in op.MapWW f e = All-nil _
   operate_in op.MapWB f e = All-nil _
   operate_in op.Not f e = tt
@@ -293,7 +289,7 @@ module _ (ss : List Sort) (vs : List Value) (r : Sort) (all : All IsInRange vs) 
   operate_in op.Fits f e = tt
   operate_in (op.Bytes k) f e = copies_in (λ b. b < 256) k (word_of (part vs 0) % 256) (few k (takes (sort.Word ∷ []) sort.Bytes ss) r e) (omega arith)
   operate_in (op.Words k) f e = copies_in (λ n. n < words.words) k (word_of (part vs 0)) (few k (takes (sort.Word ∷ []) sort.Words ss) r e) (at_word 0)
-  operate_in (op.Refs k) f e = copies_in (λ n. n < references) k (ref_of (part vs 0)) (few k (takes (sort.Ref ∷ []) sort.Refs ss) r e) (ref_below (part vs 0) (here 0))
+  operate_in (op.Refs k) f e = (copies_in (λ n. Unit {0}) k (ref_of (part vs 0)) (few k (takes (sort.Ref ∷ []) sort.Refs ss) r e) tt).0
   operate_in (op.Blocks k) f e = copies_in AreBytes k (bytes_of (part vs 0)) (few k (takes (sort.Bytes ∷ []) sort.Blocks ss) r e) (bytes_in (part vs 0) (here 0))
   operate_in op.Len f e = length_in (part vs 0) (here 0)
   operate_in op.At f e = item_at_in (part vs 0) _ (here 0)
@@ -319,14 +315,14 @@ zero_in sort.Word = lit< tt
 zero_in sort.Bool = tt
 zero_in sort.Bytes = nothing (λ b. b < 256)
 zero_in sort.Words = nothing (λ n. n < words.words)
-zero_in sort.Refs = nothing (λ r. r < references)
+zero_in sort.Refs = lit< tt
 zero_in sort.Blocks = nothing AreBytes
 zero_in sort.MapWW = All-nil _
 zero_in sort.MapWB = All-nil _
-zero_in sort.Ref = lit< tt
+zero_in sort.Ref = tt
 zero_in sort.SliceS = no_slice
-zero_in sort.Call = lit< tt
-zero_in sort.Name = nothing (λ b. b < 256)
+zero_in sort.Call = tt
+zero_in sort.Name = tt
 
 found_in : (bs : List Binding) (n : List ℕ) (s : Sort) → All (λ b. IsInRange b.value) bs → IsInRange (unwrap_or (option_map (λ b. b.value) (find (λ b. bytes_eq b.name n && has_sort b.value s) bs)) (zero_of s))
 found_in [] n s all = zero_in s
@@ -377,7 +373,7 @@ pub values_in_range : ValuesInRange
 values_in_range env t s all = tree_in_range env all t s
 
 -- the value of a store's term
-pub term_range : (env : Env) (ns : List Stored) (i : ℕ) → AreSound ns → i < length ns → All (λ b. IsInRange b.value) env.bindings → IsInRange (value_under env (tree_at (trees_of ns) i))
+pub term_range : (env : Env) (ns : List Stored) (i : ℕ) → AreSound ns → i < length ns → IsValuation env → IsInRange (value_under env (tree_at (trees_of ns) i))
 term_range env ns i sound lt all =
     let node = sound i some_node lt in
     values_in_range env (tree_at (trees_of ns) i) (get_or ns i some_node).sort all node.sort node.words

@@ -1,5 +1,5 @@
--- Which values a machine can have: numbers of their widths, and lists that are not too long.
-use Rattle.std.specs.Prelude.{ℕ, ◌+◌, ◌<◌, ◌≤◌, ◌^◌, List, length, Bool, true, ◌&&◌, nat_lt}
+-- Which values terms can have. Words and bytes have their widths and lists their length; references and calls are as many as there are, and names as long.
+use Rattle.std.specs.Prelude.{ℕ, ◌+◌, ◌<◌, ◌≤◌, List, length, Bool, true, ◌&&◌, nat_lt}
 use Rattle.std.specs.List.{All, list_all}
 use Rattle.gv_base.specs.declared.slice_val.SliceVal.{SliceVal}
 use Rattle.gv_terms.specs.declared.operator.Operator.{Operator}
@@ -10,12 +10,9 @@ use Rattle.gv_terms.specs.declared.tree.TermTree.{TermTree, fold-TermTree}
 use Rattle.gv_terms.specs.declared.tree.TermTree.TheOpen.{TermTree-F, Variable, Apply}
 use Rattle.gv_terms.specs.declared.value.Value.{Value}
 use Rattle.gv_terms.specs.declared.value.Value.TheVariants as val
+use Rattle.gv_terms.specs.declared.value.Env.{Env}
 use Rattle.gv_words.specs.Words.{words}
 use Rattle.gv_terms.specs.Meaning.{too_long}
-
--- how many references there are, and how many calls
-abbrev pub references : ℕ
-references = 2 ^ 32
 
 -- a list that is not too long, of such items
 abbrev pub IsList : {A : Type 0} → (A → Type 0) → List A → Type 0
@@ -30,23 +27,27 @@ IsMap P m = All (λ e. (e.0 < words) × P e.1) m
 
 -- the cells and the spare cells of a slice end below 2^63, and it has no more cells than its capacity
 abbrev pub IsSlice : SliceVal → Type 0
-IsSlice s = (s.object < references) × (s.offset + s.capacity < too_long) × (s.length ≤ s.capacity)
+IsSlice s = (s.offset + s.capacity < too_long) × (s.length ≤ s.capacity)
 
--- a number fits its width, a list or a map holds what is in range; the value of no reply is in range too
+-- a word fits its width, a list or a map holds what is in range; the value of no reply is in range too
 abbrev pub IsInRange : Value → Type 0
 IsInRange (val.Word n) = n < words
 IsInRange (val.Bool b) = Unit {0}
 IsInRange (val.Bytes x) = AreBytes x
 IsInRange (val.Words x) = IsList (λ n. n < words) x
-IsInRange (val.Refs x) = IsList (λ r. r < references) x
+IsInRange (val.Refs x) = length x < too_long
 IsInRange (val.Blocks x) = IsList AreBytes x
 IsInRange (val.MapWW m) = IsMap (λ n. n < words) m
 IsInRange (val.MapWB m) = IsMap AreBytes m
-IsInRange (val.Ref r) = r < references
+IsInRange (val.Ref r) = Unit {0}
 IsInRange (val.SliceS s) = IsSlice s
-IsInRange (val.Call c) = c < references
-IsInRange (val.Name n) = AreBytes n
+IsInRange (val.Call c) = Unit {0}
+IsInRange (val.Name n) = Unit {0}
 IsInRange val.Unit = Unit {0}
+
+-- a valuation gives values in range
+abbrev pub IsValuation : Env → Type 0
+IsValuation env = All (λ b. IsInRange b.value) env.bindings
 
 -- whether an operator is no number, or one that is a word
 abbrev pub is_word_if_number : Operator → Bool

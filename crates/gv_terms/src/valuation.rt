@@ -1,11 +1,11 @@
 //! The value of a term under a valuation.
 
 ghost use Rattle.std.specs.Prelude.{◌≡◌, ◌<◌, ◌&&◌, length, IfOk, OnOk};
-ghost use Rattle.std.specs.List.{All, find};
+ghost use Rattle.std.specs.List.{find};
 ghost use Rattle.std.specs.Option.{option_copied, option_map};
 ghost use Rattle.std.specs.Str.{bytes_eq};
 ghost use Rattle.gv_terms.specs.Values.{has_sort, sort_of_value};
-ghost use Rattle.gv_terms.specs.Ranges.{IsInRange};
+ghost use Rattle.gv_terms.specs.Ranges.{IsInRange, IsValuation};
 ghost use Rattle.gv_terms.specs.Trees.{looked_up, head_value, sort_of, value_under};
 ghost use Rattle.gv_terms.specs.Store.{tree_at, trees_of, part_count, AreSound};
 ghost use Rattle.gv_terms.specs.Evaluation.{held_all, AreHeld, Loses};
@@ -30,7 +30,7 @@ pub fn eval(alloc: Global, store: &TermStore, t: Term, env: &Env) -> Result<Valu
     requires { t.id < length store.now }
     ensures value { IfOk result (λ v. v ≡ value_under env.now (tree_at store.now t.id)) }
     ensures sort { IfOk result (λ v. sort_of_value v ≡ sort_of (tree_at store.now t.id)) }
-    ensures range { IfOk result (λ v. All (λ b. IsInRange b.value) env.now.bindings → IsInRange v) }
+    ensures range { IfOk result (λ v. IsValuation env.now → IsInRange v) }
 {
     value_of(alloc, store.nodes(), t.id, env)
 }

@@ -1,7 +1,6 @@
 use Rattle.std.proofs.Common.{◌≡◌, length, sym, ap, ◌∙◌, subst, arith}
-use Rattle.std.specs.List.{All}
 use Rattle.std.proofs.lemmas.Result.{IfOk-weaker}
-use Rattle.gv_terms.specs.Ranges.{IsInRange}
+use Rattle.gv_terms.specs.Ranges.{IsInRange, IsValuation}
 use Rattle.gv_terms.specs.Values.{sort_of_value}
 use Rattle.gv_terms.specs.Trees.{sort_of, value_under}
 use Rattle.gv_terms.specs.Store.{tree_at, trees_of}
@@ -29,6 +28,6 @@ returns-clause-range c =
     let ns = c.nodes.result.now in
     let env = c.args.env.now in
     let i = c.args.t.id in
-    IfOk-weaker c.value_of.result (λ v. v ≡ value_under env (tree_at (trees_of ns) i)) (λ v. All (λ b. IsInRange b.value) env.bindings → IsInRange v)
+    IfOk-weaker c.value_of.result (λ v. v ≡ value_under env (tree_at (trees_of ns) i)) (λ v. IsValuation env → IsInRange v)
     (λ v e all. subst IsInRange (sym e) (term_range env ns i c.nodes.ensures.sound (omega (arith, c.requires, length_trees ns, ap length c.nodes.ensures.trees)) all))
     c.value_of.ensures
