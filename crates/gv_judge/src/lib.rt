@@ -1,7 +1,6 @@
 //! The search for an explanation of one recorded history.
 #![tactic(auto)]
 
-mod binding;
 mod calls;
 mod choices;
 mod judging;

@@ -12,12 +12,11 @@ ghost use Rattle.gv_judge.specs.Later.{later_lists};
 ghost use Rattle.gv_judge.specs.Node.{IsReady};
 ghost use Rattle.gv_judge.specs.Turn.{acts_from, later_of_op, move_first, moves_later, turn_moves, IsTurn};
 
-use crate::binding::{crash_before, crash_picks, op_before, operation};
 use crate::calls::Waiting;
 use crate::choices::{first_choices, next_choices};
 use crate::node::Node;
 use gv_base::{List, NoMemory};
-use gv_spec::{Entry, Move, Spec};
+use gv_spec::{Entry, Move, Spec, crash_before, crash_parts, op_before, operation};
 use gv_terms::{Value, copy_list};
 use std::alloc::Global;
 
@@ -69,7 +68,7 @@ pub fn first_turn<'h>(
         })),
         Some(Entry::Crash) => Ok(Some(Turn::Crash)),
         Some(Entry::Boot) => Ok(Some(Turn::Boot {
-            choices: first_choices(alloc, crash_picks(spec))?,
+            choices: first_choices(alloc, crash_parts(spec).0)?,
         })),
     }
 }
@@ -88,7 +87,7 @@ fn later_boot<'h>(
     ensures turn { IfOk result (λ o. IsTurn spec.now node.now o) }
 {
     let before = crash_before(alloc, spec, &node.fields)?;
-    match next_choices(alloc, &spec.store, before, crash_picks(spec), choices)? {
+    match next_choices(alloc, &spec.store, before, crash_parts(spec).0, choices)? {
         Some(choices) => Ok(Some(Turn::Boot { choices })),
         None => first_act(alloc, spec, node, 0),
     }

@@ -15,4 +15,6 @@ pub use laws::{
     choosing_nothing, explanations, impossible_events, lasting, worked, written_walks,
     wrong_definitions,
 };
-pub use meaning::{apply, crashed, init, meets_where, takes};
+pub use meaning::{
+    apply, crash_before, crash_parts, crashed, init, meets_where, op_before, operation, takes,
+};

@@ -82,7 +82,7 @@ pub fn apply(
     ensures reply_sort { IfOk result (λ o. IfSome o (λ r. sort_of_value r.1 ≡ reply_sort spec.now op)) }
 {
     let operation = operation(spec, op);
-    let mut env = before(alloc, spec, s, operation, args)?;
+    let mut env = op_before(alloc, spec, s, operation, args)?;
     if !choose(
         alloc,
         &spec.store,
@@ -112,7 +112,7 @@ pub fn crashed(
     ensures each { IfOk result (λ o. IfSome o (λ r. EachOfCrash spec.now choices.now s.now.values r.values)) }
     ensures sorts { IsTrue (are_of (field_vars spec.now) s.now.values) → IfOk result (λ o. IfSome o (λ r. IsTrue (are_of (field_vars spec.now) r.values))) }
 {
-    let mut env = old_fields(alloc, spec, s)?;
+    let mut env = crash_before(alloc, spec, s)?;
     let (picks, body) = crash_parts(spec);
     if !choose(alloc, &spec.store, &mut env, picks, choices)? {
         return Ok(None);
@@ -121,8 +121,8 @@ pub fn crashed(
     Ok(Some(after))
 }
 
-// What a crash picks and assigns.
-fn crash_parts(spec: &Spec) -> (&[Pick], &[Assign])
+/// What a crash picks and assigns. This project's own.
+pub fn crash_parts(spec: &Spec) -> (&[Pick], &[Assign])
     ensures picks { result.0.now ≡ spec.now.crash_picks }
     ensures body { result.1.now ≡ spec.now.crash }
     ensures picks_within { ArePicksWithin spec.now.store result.0.now }
@@ -131,8 +131,8 @@ fn crash_parts(spec: &Spec) -> (&[Pick], &[Assign])
     (spec.crash_picks.as_slice(), spec.crash.as_slice())
 }
 
-// The old fields under their names.
-fn old_fields(alloc: Global, spec: &Spec, s: &State) -> Result<Env, NoMemory>
+/// What stands before the picks of a crash: the fields under their names. This project's own.
+pub fn crash_before(alloc: Global, spec: &Spec, s: &State) -> Result<Env, NoMemory>
     ensures { IfOk result (λ e. e.bindings ≡ fields_bound spec.now.fields s.now.values) }
 {
     let mut bindings = Vec::new(alloc);
@@ -147,8 +147,9 @@ fn old_fields(alloc: Global, spec: &Spec, s: &State) -> Result<Env, NoMemory>
     })
 }
 
-// The old fields and the arguments under their names.
-fn before(
+/// What stands before the picks of an operation: the fields under their names, and then the arguments under
+/// the parameters'. This project's own.
+pub fn op_before(
     alloc: Global,
     spec: &Spec,
     s: &State,
@@ -157,7 +158,7 @@ fn before(
 ) -> Result<Env, NoMemory>
     ensures { IfOk result (λ e. e.bindings ≡ op_before spec.now operation.now args.now s.now.values) }
 {
-    let mut bindings = old_fields(alloc, spec, s)?.bindings.into_vec();
+    let mut bindings = crash_before(alloc, spec, s)?.bindings.into_vec();
     bind_args(alloc, &mut bindings, operation.params.as_slice(), args)?;
     Ok(Env {
         bindings: List::from_vec(bindings),
@@ -262,8 +263,8 @@ fn set_at(values: &mut Vec<Value>, place: u32, value: Value)
     }
 }
 
-// The operation with a number.
-fn operation(spec: &Spec, op: u32) -> &Op
+/// The operation with a number, from 0. This project's own.
+pub fn operation(spec: &Spec, op: u32) -> &Op
     requires { op < length spec.now.ops }
     ensures is { slice_get spec.now.ops op ≡ Some result.now }
     ensures within { IsOpWithin spec.now.store result.now }
