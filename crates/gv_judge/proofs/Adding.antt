@@ -1,5 +1,5 @@
 -- What is added to a node, told from the node that the program holds.
-use Rattle.std.proofs.Common.{◌≡◌, ◌≢◌, ◌↔◌, ◌⊎◌, ℕ, ◌+◌, ◌<◌, ◌≤◌, zero, suc, Bool, true, false, cond, eqb, List, [], ◌∷◌, ◌++◌, map, length, take, drop, Option, Some, None, refl, sym, ap, subst, ◌∙◌, arith, inl, inr}
+use Rattle.std.proofs.Common.{◌≡◌, ◌⊎◌, ℕ, ◌+◌, ◌<◌, ◌≤◌, zero, suc, cond, List, [], ◌∷◌, ◌++◌, map, length, take, drop, Some, None, refl, sym, ap, subst, ◌∙◌, arith, inl, inr}
 use Rattle.std.specs.Prelude.{slice_get}
 use Rattle.std.specs.List.{flat_map}
 use Rattle.gv_terms.specs.declared.value.Value.{Value}
@@ -14,7 +14,7 @@ use Rattle.gv_spec.specs.Walks.{Standing, NeverCalled, Called, Acted, Answered, 
 use Rattle.gv_judge.specs.declared.calls.Waiting.{Waiting}
 use Rattle.gv_judge.specs.declared.node.Node.{Node}
 use Rattle.gv_judge.specs.Choosing.{choosing_of, lists_of_op}
-use Rattle.gv_judge.specs.Search.{count_up, acts_of, acts_under, showing, additions}
+use Rattle.gv_judge.specs.Search.{count_up, acts_of, showing, additions}
 use Rattle.gv_judge.specs.Room.{IsBound}
 use Rattle.gv_judge.specs.Calls.{waiting_under, AreCalls}
 use Rattle.gv_judge.specs.Node.{to_do, StandsAt}

@@ -1,5 +1,5 @@
 -- What a turn adds, and what is added after it.
-use Rattle.std.proofs.Common.{◌≡◌, ℕ, ◌+◌, ◌<◌, ◌≤◌, zero, suc, List, [], ◌∷◌, ◌++◌, map, length, get_or, drop, Option, Some, None, refl, sym, ap, subst, ◌∙◌, arith}
+use Rattle.std.proofs.Common.{◌≡◌, ℕ, ◌+◌, ◌<◌, zero, suc, List, [], ◌∷◌, ◌++◌, map, length, get_or, drop, Option, Some, None, refl, sym, ap, subst, ◌∙◌, arith}
 use Rattle.std.specs.Prelude.{slice_get}
 use Rattle.std.proofs.lemmas.Option.{slice_get-get_or}
 use Rattle.gv_terms.specs.declared.tree.TermTree.{TermTree}
@@ -10,8 +10,6 @@ use Rattle.gv_atomic.specs.declared.spec.Op.{Op}
 use Rattle.gv_atomic.specs.declared.spec.Spec.{Spec}
 use Rattle.gv_atomic.specs.Specification.{fields_bound, op_before}
 use Rattle.gv_spec.specs.declared.entry.Entry as held_entry
-use Rattle.gv_spec.specs.declared.entry.Entry.TheVariants as held
-use Rattle.gv_spec.specs.Entry as entry
 use Rattle.gv_spec.specs.Move as move
 use Rattle.gv_spec.specs.Move.{Move}
 use Rattle.gv_spec.specs.Atomic.{atomic_of}

@@ -1,15 +1,12 @@
 -- The calls in the table as lists: one more, one less, and in ascending order all that the search adds.
-use Rattle.std.proofs.Common.{◌≡◌, ◌≢◌, ◌↔◌, ◌⊎◌, ℕ, ◌+◌, ◌-◌, ◌<◌, ◌≤◌, zero, suc, Bool, true, false, cond, eqb, eqb-true, eq-eqb, nat_lt, List, [], ◌∷◌, ◌++◌, map, length, Option, Some, None, refl, sym, ap, subst, ◌∙◌, arith, inl, inr, append-nil, append_assoc}
+use Rattle.std.proofs.Common.{◌≡◌, ℕ, ◌+◌, ◌<◌, ◌≤◌, zero, suc, Bool, true, false, cond, eqb, eqb-true, eq-eqb, nat_lt, List, [], ◌∷◌, ◌++◌, Some, None, refl, sym, ap, subst, ◌∙◌, arith}
 use Rattle.std.specs.Prelude.{slice_get}
-use Rattle.std.specs.List.{flat_map}
 use Rattle.std.proofs.lemmas.Bool.Decides.{nat_tests}
 use Rattle.gv_terms.specs.declared.value.Value.{Value}
-use Rattle.gv_atomic.specs.declared.spec.Spec.{Spec}
 use Rattle.gv_spec.specs.Entry as entry
 use Rattle.gv_spec.specs.Entry.{Entry}
 use Rattle.gv_judge.specs.declared.calls.Waiting.{Waiting}
 use Rattle.gv_judge.specs.declared.calls.Kept.{Kept}
-use Rattle.gv_judge.specs.SearchLaws.{IsIn}
 use Rattle.gv_judge.specs.Calls.{waiting_under, kept_under, put_in, taken_out, kept_without, AreCalls, numbers_called}
 
 differs : (n m : ℕ) → eqb n m ≡ false → n ≡ m → ⊥

@@ -1,5 +1,5 @@
 -- How far the search for the last number that can be raised has come.
-use Rattle.std.proofs.Common.{◌≡◌, ◌↔◌, ℕ, zero, suc, ◌+◌, ◌<◌, ◌≤◌, ◌^◌, List, [], ◌∷◌, ◌++◌, length, map, Bool, true, false, Option, Some, None, refl, sym, ap, subst, ◌∙◌, arith, append-nil, append_assoc, take, drop}
+use Rattle.std.proofs.Common.{◌≡◌, ℕ, zero, suc, ◌+◌, ◌<◌, ◌≤◌, ◌^◌, List, [], ◌∷◌, ◌++◌, length, Bool, true, false, Option, Some, None, refl, sym, ap, subst, ◌∙◌, arith, append-nil, append_assoc, take, drop}
 use Rattle.std.specs.Prelude.{slice_index, option_map, IfSome, IsTrue}
 use Rattle.gv_terms.specs.declared.tree.TermTree.{TermTree}
 use Rattle.gv_terms.specs.declared.value.Binding.{Binding}

@@ -1,12 +1,11 @@
 -- The order of the lists of choices, one after another.
-use Rattle.std.proofs.Common.{◌≡◌, ℕ, ◌+◌, ◌-◌, ◌<◌, ◌≤◌, ◌^◌, zero, suc, Bool, true, false, cond, eqb, nat_lt, List, [], ◌∷◌, ◌++◌, map, length, Option, Some, None, refl, sym, ap, subst, ◌∙◌, arith, inl, append-nil, append_assoc}
-use Rattle.std.specs.List.{flat_map}
+use Rattle.std.proofs.Common.{◌≡◌, ℕ, ◌+◌, ◌-◌, ◌<◌, ◌≤◌, ◌^◌, zero, suc, Bool, true, false, cond, eqb, nat_lt, List, [], ◌∷◌, ◌++◌, map, length, Some, refl, sym, ap, subst, ◌∙◌, arith, inl, append-nil, append_assoc}
 use Rattle.gv_terms.specs.declared.tree.TermTree.{TermTree}
 use Rattle.gv_terms.specs.declared.value.Binding.{Binding}
 use Rattle.gv_atomic.specs.declared.spec.Pick.{Pick}
 use Rattle.gv_atomic.specs.Choices.{picked, limit_of, picks_bound, are_allowed}
 use Rattle.gv_judge.specs.Search.{count_up}
-use Rattle.gv_judge.specs.SearchLaws.{IsIn, AreWords}
+use Rattle.gv_judge.specs.SearchLaws.{IsIn}
 use Rattle.gv_judge.specs.Choosing.{how_many, words_within, allowed_lists}
 use Rattle.gv_judge.specs.Later.{words_from, lists_beginning, first_list, later_lists, lists_from, IsListed}
 use Rattle.gv_judge.proofs.Members.{in_right}

@@ -9,6 +9,7 @@ pub mod AnswerLaws
 pub mod Later
 pub mod LastRaised
 pub mod CallLists
+pub mod RepeatLaws
 pub mod Standing
 pub mod Tree
 pub mod Adding

@@ -1,7 +1,6 @@
 -- How a search goes from node to node.
-use Rattle.std.proofs.Common.{◌≡◌, ◌↔◌, ℕ, ◌+◌, ◌*◌, ◌<◌, ◌≤◌, zero, suc, Bool, true, false, List, [], ◌∷◌, ◌++◌, map, length, take, drop, Option, Some, None, Result, Ok, Err, refl, sym, ap, subst, ◌∙◌, arith, inl, append-nil, append_assoc}
+use Rattle.std.proofs.Common.{◌≡◌, ◌↔◌, ℕ, ◌+◌, ◌*◌, ◌≤◌, zero, suc, true, false, List, [], ◌∷◌, ◌++◌, map, length, take, drop, Option, Some, None, Ok, Err, refl, sym, ap, subst, ◌∙◌, arith, inl, append-nil, append_assoc}
 use Rattle.std.specs.Prelude.{reverse, IsTrue, MatchOption}
-use Rattle.std.specs.List.{flat_map}
 use Rattle.std.proofs.lemmas.List.{reverse-append}
 use Rattle.gv_terms.specs.declared.value.Value.{Value}
 use Rattle.gv_atomic.specs.declared.spec.Spec.{Spec}
@@ -20,19 +19,19 @@ use Rattle.gv_judge.specs.declared.search.Frame.{Frame}
 use Rattle.gv_judge.specs.declared.search.Search.{Search}
 use Rattle.gv_judge.specs.Choosing.{choosing_of}
 use Rattle.gv_judge.specs.Explained.{search_order}
-use Rattle.gv_judge.specs.Search.{Choosing, call_bound, showing, additions, beginning, nodes_from, IsFull}
+use Rattle.gv_judge.specs.Search.{call_bound, showing, additions, IsFull}
 use Rattle.gv_judge.specs.SearchLaws.{IsIn}
-use Rattle.gv_judge.specs.Room.{waiting, room, IsBound}
+use Rattle.gv_judge.specs.Room.{waiting, IsBound}
 use Rattle.gv_judge.specs.Node.{IsReady, StandsAt, StandsHere, Takes}
 use Rattle.gv_judge.specs.Turn.{acts_from, move_first, moves_later, turn_moves, IsTurn}
-use Rattle.gv_judge.specs.Open.{nodes_below, IsLeft, but_last, AreLeft, IsAt, Goes, work, framed, Advances}
+use Rattle.gv_judge.specs.Open.{nodes_below, IsLeft, but_last, AreLeft, IsAt, work, framed, Advances}
 use Rattle.gv_judge.proofs.Members.{in_right}
 use Rattle.gv_judge.proofs.Choosing.{is_choosing}
 use Rattle.gv_judge.proofs.Waiting.{IsNext}
-use Rattle.gv_judge.proofs.SearchLaws.{added_next, entries_cons}
+use Rattle.gv_judge.proofs.SearchLaws.{added_next}
 use Rattle.gv_judge.proofs.Later.{map_append, map_twice, map_same}
 use Rattle.gv_judge.proofs.Adding.{first_is_all, shown_before, place_within}
-use Rattle.gv_judge.proofs.Tree.{node_first, none_below, refused_below, Begun, begun_below}
+use Rattle.gv_judge.proofs.Tree.{node_first, none_below, refused_below, begun_below}
 
 but_last_is : {A : Type 0} (xs : List A) (x : A) → but_last (xs ++ x ∷ []) ≡ xs
 but_last_is [] x = refl
@@ -88,7 +87,7 @@ module _ (s : Spec) (history : List held_entry.Entry) where
       (subst (λ ms. IsIn (move_first t) ms) (sym l.added) (in_right (move_first t) l.gone (move_first t ∷ moves_later s n t) (inl refl)))).0
 
   module _ (n : Node) (t : turns.Turn) (later : Option turns.Turn) (moves : List (Move Value)) (own : List (List (Move Value)))
-      (l : IsLeft s history (framed n t) moves own) (later_is : turn_moves s n later ≡ moves_later s n t) (is_later : IsTurn s n later) where
+      (l : IsLeft s history (framed n t) moves own) (later_is : turn_moves s n later ≡ moves_later s n t) (is_later : IsTurn s history n later) where
     -- what the frame with the later turn has left
     frame_later : IsLeft s history (record { node = n; turn = later }) moves
         (map (λ ms. moves ++ ms) (nodes_below (atomic_of s) (choosing_of s) (call_bound (map entry_of history)) l.depth l.walk l.left (turn_moves s n later)))
@@ -126,7 +125,7 @@ module _ (s : Spec) (history : List held_entry.Entry) where
     pub taken : (child : Node) (turn : Option turns.Turn) (u : WalkState (List Value) Value) → walk_moved (atomic_of s) l.walk (move_first t) ≡ Ok u
         → StandsAt s (entries_of moves ++ entries_of (move_first t ∷ [])) child u
         → turn_moves s child turn ≡ additions (atomic_of s) (choosing_of s) (call_bound (map entry_of history)) u (left_after l.left (shown (move_first t)))
-        → IsTurn s child turn → Taken child turn
+        → IsTurn s history child turn → Taken child turn
     taken child turn u e stands all is_turn =
         let atomic = atomic_of s in
         let choosing = choosing_of s in
@@ -181,7 +180,7 @@ module _ (s : Spec) (history : List held_entry.Entry) where
       let none : h.0 ≡ [] = done_left n moves h.0 h.3 in
       subst (AreLeft s history frames (but_last moves)) (sym (h.2 ∙ ap (λ o. o ++ h.1) none)) h.4
 
-  module _ (n : Node) (t : turns.Turn) (later : Option turns.Turn) (frames : List Frame) (moves : List (Move Value)) (later_is : turn_moves s n later ≡ moves_later s n t) (is_later : IsTurn s n later) where
+  module _ (n : Node) (t : turns.Turn) (later : Option turns.Turn) (frames : List Frame) (moves : List (Move Value)) (later_is : turn_moves s n later ≡ moves_later s n t) (is_later : IsTurn s history n later) where
     -- a turn whose move is refused
     pub path_refused : IsAfter n t None → (todo : List (List (Move Value))) → AreLeft s history (framed n t ∷ frames) moves todo → AreLeft s history (record { node = n; turn = later } ∷ frames) moves todo
     path_refused refuses todo h =
@@ -192,7 +191,7 @@ module _ (s : Spec) (history : List held_entry.Entry) where
     -- a turn whose move is taken
     pub path_taken : (child : Node) (turn : Option turns.Turn) → IsAfter n t (Some child)
         → turn_moves s child turn ≡ showing (atomic_of s) (choosing_of s) child.fields.values (map entry_of (drop child.place history)) ++ acts_from s child.fields.values child.waiting.items
-        → IsTurn s child turn
+        → IsTurn s history child turn
         → (todo : List (List (Move Value))) → AreLeft s history (framed n t ∷ frames) moves todo
         → (rest : List (List (Move Value))) × (todo ≡ (moves ++ move_first t ∷ []) ∷ rest)
         × AreLeft s history (record { node = child; turn = turn } ∷ record { node = n; turn = later } ∷ frames) (moves ++ move_first t ∷ []) rest
@@ -224,7 +223,7 @@ module _ (s : Spec) (history : List held_entry.Entry) where
 
   pub path_first : (n : Node) (turn : Option turns.Turn) → StandsAt s [] n (first_walk (atomic_of s))
       → turn_moves s n turn ≡ showing (atomic_of s) (choosing_of s) n.fields.values (map entry_of (drop n.place history)) ++ acts_from s n.fields.values n.waiting.items
-      → IsTurn s n turn
+      → IsTurn s history n turn
       → (todo : List (List (Move Value))) × (search_order s history ≡ [] ∷ todo) × AreLeft s history (record { node = n; turn = turn } ∷ []) [] todo
   path_first n turn stands all is_turn =
       let bound = call_bound (map entry_of history) in
@@ -285,7 +284,7 @@ module _ (s : Spec) (history : List held_entry.Entry) where
   -- what stands of it
   pub record Standing (n : Node) (t : turns.Turn) : Type 0 where
     pub ready : IsReady s n
-    pub turn : IsTurn s n (Some t)
+    pub turn : IsTurn s history n (Some t)
     pub place : n.place ≤ length history
 
   pub frame_stands : (n : Node) (t : turns.Turn) (frames : List Frame) (moves : List (Move Value)) (todo : List (List (Move Value)))
@@ -293,7 +292,7 @@ module _ (s : Spec) (history : List held_entry.Entry) where
   frame_stands n t frames moves todo h =
       (let l = h.3 in record { ready = l.stands.ready; turn = l.is_turn; place = place_within s history (entries_of moves) l.left n l.walk 0 l.shows l.stands })
 
-  module _ (n : Node) (t : turns.Turn) (later : Option turns.Turn) (old new : Search) (later_is : turn_moves s n later ≡ moves_later s n t) (is_later : IsTurn s n later) where
+  module _ (n : Node) (t : turns.Turn) (later : Option turns.Turn) (old new : Search) (later_is : turn_moves s n later ≡ moves_later s n t) (is_later : IsTurn s history n later) where
     pub stayed : IsAfter n t None → new.frames.items ≡ old.frames.items ++ (record { node = n; turn = later }) ∷ [] → new.moves ≡ old.moves → Advances s history false n t old new
     stayed refuses frames moves = (
       (λ todo h. subst (λ ms. AreLeft s history (reverse new.frames.items) ms todo) (ap (map move_of) (sym moves))
@@ -307,7 +306,7 @@ module _ (s : Spec) (history : List held_entry.Entry) where
 
     pub advanced : (child : Node) (turn : Option turns.Turn) (shown_move : held_moves.Move) → IsAfter n t (Some child)
         → turn_moves s child turn ≡ showing (atomic_of s) (choosing_of s) child.fields.values (map entry_of (drop child.place history)) ++ acts_from s child.fields.values child.waiting.items
-        → IsTurn s child turn → move_of shown_move ≡ move_first t
+        → IsTurn s history child turn → move_of shown_move ≡ move_first t
         → new.frames.items ≡ (old.frames.items ++ (record { node = n; turn = later }) ∷ []) ++ (record { node = child; turn = turn }) ∷ []
         → new.moves ≡ old.moves ++ shown_move ∷ [] → IsTrue new.is_full ↔ (child.place ≡ length history) → Advances s history true n t old new
     advanced child turn shown_move takes all is_turn shown_is frames moves full todo h =
@@ -340,7 +339,7 @@ module _ (s : Spec) (history : List held_entry.Entry) where
 
   pub begun_at : (x : Search) (n : Node) (turn : Option turns.Turn) → StandsAt s [] n (first_walk (atomic_of s))
       → turn_moves s n turn ≡ showing (atomic_of s) (choosing_of s) n.fields.values (map entry_of (drop n.place history)) ++ acts_from s n.fields.values n.waiting.items
-      → IsTurn s n turn → x.frames.items ≡ (record { node = n; turn = turn }) ∷ [] → x.moves ≡ [] → IsTrue x.is_full ↔ (history ≡ [])
+      → IsTurn s history n turn → x.frames.items ≡ (record { node = n; turn = turn }) ∷ [] → x.moves ≡ [] → IsTrue x.is_full ↔ (history ≡ [])
       → (todo : List (List (Move Value))) × (search_order s history ≡ [] ∷ todo) × IsAt s history x todo
   begun_at x n turn stands all is_turn frames moves full =
       let p = path_first n turn stands all is_turn in

@@ -1,19 +1,17 @@
 -- Where a node stands after each move.
-use Rattle.std.proofs.Common.{◌≡◌, ◌≢◌, ◌↔◌, ◌⊎◌, ℕ, ◌+◌, ◌<◌, ◌≤◌, zero, suc, Bool, true, false, cond, eqb, List, [], ◌∷◌, ◌++◌, map, length, Option, Some, None, Result, Ok, Err, refl, sym, ap, subst, ◌∙◌, arith, inl, inr, append-nil}
-use Rattle.std.specs.Prelude.{option_map, IsTrue}
+use Rattle.std.proofs.Common.{◌≡◌, ◌↔◌, ℕ, ◌+◌, ◌<◌, Bool, true, false, cond, eqb, List, [], ◌∷◌, ◌++◌, length, Option, Some, None, Ok, Err, refl, sym, ap, subst, ◌∙◌, arith, inl, inr, append-nil}
+use Rattle.std.specs.Prelude.{IsTrue}
 use Rattle.gv_terms.specs.declared.value.Value.{Value}
 use Rattle.gv_terms.specs.Values.{value_eq}
 use Rattle.gv_terms.proofs.Equality.{value_eq_decides}
 use Rattle.gv_atomic.specs.declared.spec.Spec.{Spec}
-use Rattle.gv_atomic.specs.declared.spec.State.{State}
 use Rattle.gv_spec.specs.Entry as entry
 use Rattle.gv_spec.specs.Move as move
 use Rattle.gv_spec.specs.Entry.{Entry}
 use Rattle.gv_spec.specs.Move.{Move, entries_of}
 use Rattle.gv_spec.specs.Atomic.{atomic_of}
-use Rattle.gv_spec.specs.Walks.{Standing, NeverCalled, Called, Acted, Answered, Dropped, WalkState, WalkCause, Repeated, NotCalled, ActedAlready, NotActed, WrongReply, BadChoice, first_walk, entered, dropped, walk_called, walk_acted, walk_answered, booted_to, acted_to, walk_moved}
+use Rattle.gv_spec.specs.Walks.{Standing, NeverCalled, Called, Acted, Answered, Dropped, WalkState, WalkCause, Repeated, NotCalled, NotActed, WrongReply, BadChoice, first_walk, entered, dropped, walk_called, walk_acted, walk_answered, booted_to, acted_to, walk_moved}
 use Rattle.gv_judge.specs.declared.calls.Waiting.{Waiting}
-use Rattle.gv_judge.specs.declared.calls.Kept.{Kept}
 use Rattle.gv_judge.specs.declared.node.Node.{Node}
 use Rattle.gv_judge.specs.SearchLaws.{IsIn}
 use Rattle.gv_judge.specs.Calls.{waiting_under, kept_under, put_in, taken_out, kept_without, AreCalls, numbers_called}

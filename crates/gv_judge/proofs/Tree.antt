@@ -1,6 +1,5 @@
 -- The nodes below a node, move by move.
-use Rattle.std.proofs.Common.{◌≡◌, ℕ, ◌+◌, ◌≤◌, zero, suc, List, [], ◌∷◌, ◌++◌, map, Result, Ok, Err, refl, sym, ap, subst, ◌∙◌, arith}
-use Rattle.std.specs.List.{flat_map}
+use Rattle.std.proofs.Common.{◌≡◌, ℕ, ◌≤◌, zero, suc, List, [], ◌∷◌, ◌++◌, map, Ok, Err, refl, ap, ◌∙◌, arith}
 use Rattle.gv_spec.specs.Entry.{Entry}
 use Rattle.gv_spec.specs.Move.{Move, shown}
 use Rattle.gv_spec.specs.Specification.{Specification}

@@ -1,5 +1,5 @@
 -- The calls in the table, as lists: those that have not acted, by ascending numbers, and those that have, with their replies.
-use Rattle.std.specs.Prelude.{◌≡◌, ℕ, ◌+◌, ◌<◌, ◌≤◌, ◌==◌, List, [], ◌∷◌, Option, Some, None, if◌then◌else◌, nat_lt}
+use Rattle.std.specs.Prelude.{ℕ, ◌+◌, ◌<◌, ◌≤◌, ◌==◌, List, [], ◌∷◌, Option, Some, None, if◌then◌else◌, nat_lt}
 use Rattle.gv_terms.specs.declared.value.Value.{Value}
 use Rattle.gv_spec.specs.Entry as entry
 use Rattle.gv_spec.specs.Entry.{Entry}

@@ -2,13 +2,9 @@
 use Rattle.std.specs.Prelude.{◌≡◌, ℕ, ◌+◌, ◌-◌, ◌<◌, ◌^◌, List, [], ◌∷◌, ◌++◌, map, length, take, drop, slice_index, Option, Some, None}
 use Rattle.std.specs.List.{flat_map}
 use Rattle.gv_terms.specs.declared.tree.TermTree.{TermTree}
-use Rattle.gv_terms.specs.declared.value.Value.{Value}
 use Rattle.gv_terms.specs.declared.value.Binding.{Binding}
 use Rattle.gv_atomic.specs.declared.spec.Pick.{Pick}
-use Rattle.gv_atomic.specs.declared.spec.Op.{Op}
-use Rattle.gv_atomic.specs.declared.spec.Spec.{Spec}
 use Rattle.gv_atomic.specs.Choices.{picked, limit_of}
-use Rattle.gv_atomic.specs.Specification.{fields_bound, op_before}
 use Rattle.gv_judge.specs.Search.{count_up}
 use Rattle.gv_judge.specs.Choosing.{how_many, allowed_lists}
 

@@ -6,6 +6,7 @@ pub mod Bound
 pub mod Explained
 pub mod Later
 pub mod Calls
+pub mod Repeats
 pub mod Room
 pub mod Node
 pub mod Turn

@@ -1,11 +1,14 @@
 -- How a node of the search that the program holds tells where the walk stands.
-use Rattle.std.specs.Prelude.{◌≡◌, ◌↔◌, ℕ, List, [], ◌∷◌, ◌++◌, length, Option, Some, None, Ok, Err}
+use Rattle.std.specs.Prelude.{◌≡◌, ◌↔◌, ℕ, ◌<◌, Bool, List, [], ◌∷◌, ◌++◌, length, Option, Some, None, Ok, Err, IsTrue}
 use Rattle.gv_terms.specs.declared.value.Value.{Value}
 use Rattle.gv_atomic.specs.declared.spec.Spec.{Spec}
+use Rattle.gv_spec.specs.Entry as entry
 use Rattle.gv_spec.specs.Entry.{Entry}
+use Rattle.gv_spec.specs.Move as move
 use Rattle.gv_spec.specs.Move.{Move, entries_of}
 use Rattle.gv_spec.specs.Atomic.{atomic_of}
 use Rattle.gv_spec.specs.Walks.{Standing, NeverCalled, Called, Acted, Answered, Dropped, WalkState, WalkCause, walk_moved}
+use Rattle.gv_judge.specs.declared.calls.Waiting.{Waiting}
 use Rattle.gv_judge.specs.declared.node.Node.{Node}
 use Rattle.gv_judge.specs.SearchLaws.{IsIn}
 use Rattle.gv_judge.specs.Calls.{waiting_under, kept_under, AreCalls, numbers_called}
@@ -47,3 +50,8 @@ StandsHere s n Holds = (before : List (Entry Value)) (w : WalkState (List Value)
 abbrev pub Takes : Spec → List (Entry Value) → WalkState (List Value) Value → Move Value → Option Node → Type 0
 Takes s before w m None = (cause : WalkCause) × (walk_moved (atomic_of s) w m ≡ Err cause)
 Takes s before w m (Some n) = (u : WalkState (List Value) Value) × (walk_moved (atomic_of s) w m ≡ Ok u) × StandsAt s (before ++ entries_of (m ∷ [])) n u
+
+-- the node after a call, or none where the walk refuses it, once it is told whether an entry before bears the call's number
+abbrev pub TakesCall : Node → Waiting → Bool → Option Node → Type 0
+TakesCall n c is_repeat o = (s : Spec) → c.op < length s.ops → StandsHere s n (λ before w.
+    (IsTrue is_repeat ↔ IsIn c.number (numbers_called before)) → Takes s before w (move.Other (entry.Call c.number c.op c.args.now)) o)

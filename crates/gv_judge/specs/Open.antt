@@ -1,5 +1,5 @@
 -- What a search has still to go through: the nodes below each node of its path.
-use Rattle.std.specs.Prelude.{◌≡◌, ◌↔◌, ℕ, ◌+◌, ◌<◌, ◌≤◌, zero, suc, Bool, true, false, List, [], ◌∷◌, ◌++◌, map, reverse, length, Option, Some, IsTrue}
+use Rattle.std.specs.Prelude.{◌≡◌, ◌↔◌, ℕ, ◌+◌, ◌<◌, ◌≤◌, zero, suc, Bool, true, false, List, [], ◌∷◌, ◌++◌, map, reverse, length, Some, IsTrue}
 use Rattle.std.specs.List.{flat_map}
 use Rattle.gv_terms.specs.declared.value.Value.{Value}
 use Rattle.gv_atomic.specs.declared.spec.Spec.{Spec}
@@ -15,6 +15,7 @@ use Rattle.gv_judge.specs.declared.turn.Turn as turns
 use Rattle.gv_judge.specs.declared.search.Frame.{Frame}
 use Rattle.gv_judge.specs.declared.search.Search.{Search}
 use Rattle.gv_judge.specs.Choosing.{choosing_of}
+use Rattle.gv_judge.specs.Explained.{search_order}
 use Rattle.gv_judge.specs.Search.{Choosing, call_bound, additions, beginning, nodes_from, IsFull}
 use Rattle.gv_judge.specs.Room.{room, IsBound}
 use Rattle.gv_judge.specs.Node.{StandsAt}
@@ -37,7 +38,7 @@ pub record IsLeft (s : Spec) (history : List held_entry.Entry) (f : Frame) (move
   pub room : room (call_bound (map entry_of history)) walk left ≤ depth
   pub gone : List (Move Value)
   pub added : additions (atomic_of s) (choosing_of s) (call_bound (map entry_of history)) walk left ≡ gone ++ turn_moves s f.node f.turn
-  pub is_turn : IsTurn s f.node f.turn
+  pub is_turn : IsTurn s history f.node f.turn
   pub below : own ≡ map (λ ms. moves ++ ms) (nodes_below (atomic_of s) (choosing_of s) (call_bound (map entry_of history)) depth walk left (turn_moves s f.node f.turn))
 
 -- a list without its last item
@@ -63,14 +64,30 @@ abbrev pub Goes : Spec → List held_entry.Entry → Bool → Search → List (L
 Goes s history true x todo = (rest : List (List (Move Value))) × (todo ≡ map move_of x.moves ∷ rest) × IsAt s history x rest
 Goes s history false x todo = todo ≡ []
 
+-- a frame with this turn
+abbrev pub framed : Node → turns.Turn → Frame
+framed n t = record { node = n; turn = Some t }
+
+-- it stands at the first node, and all others are to come
+abbrev pub Begins : Spec → List held_entry.Entry → Search → Type 0
+Begins s history x = (todo : List (List (Move Value))) × (search_order s history ≡ [] ∷ todo) × IsAt s history x todo
+
+-- wherever it stood, it goes to the next node
+abbrev pub GoesFrom : Spec → List held_entry.Entry → Search → Search → Bool → Type 0
+GoesFrom s history old new b = (todo : List (List (Move Value))) → IsAt s history old todo → Goes s history b new todo
+
+-- it stands at a node
+abbrev pub Stands : Spec → List held_entry.Entry → Search → Type 0
+Stands s history x = (todo : List (List (Move Value))) × IsAt s history x todo
+
+-- the frame with this turn is the last one of its path
+abbrev pub HasTaken : Spec → List held_entry.Entry → Node → turns.Turn → Search → Type 0
+HasTaken s history n t x = (todo : List (List (Move Value))) × AreLeft s history (framed n t ∷ reverse x.frames.items) (map move_of x.moves) todo
+
 -- how many moves are still to be added to the nodes of the path, and how many nodes it has
 abbrev pub work : Spec → List Frame → ℕ
 work s [] = 0
 work s (f ∷ frames) = suc (length (turn_moves s f.node f.turn)) + work s frames
-
--- a frame with this turn
-abbrev pub framed : Node → turns.Turn → Frame
-framed n t = record { node = n; turn = Some t }
 
 -- A turn is taken: it goes to the next node, or its move is refused and there is less to do.
 abbrev pub Advances : Spec → List held_entry.Entry → Bool → Node → turns.Turn → Search → Search → Type 0

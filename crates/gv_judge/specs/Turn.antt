@@ -5,6 +5,8 @@ use Rattle.gv_terms.specs.declared.value.Value.{Value}
 use Rattle.gv_atomic.specs.declared.spec.Op.{Op}
 use Rattle.gv_atomic.specs.declared.spec.Spec.{Spec}
 use Rattle.gv_atomic.specs.Specification.{fields_bound, op_before}
+use Rattle.gv_spec.specs.declared.entry.Entry as held_entry
+use Rattle.gv_spec.specs.declared.entry.Entry.TheVariants as held
 use Rattle.gv_spec.specs.Entry as entry
 use Rattle.gv_spec.specs.Move as move
 use Rattle.gv_spec.specs.Move.{Move}
@@ -33,14 +35,22 @@ move_first turn.Crash = move.Other entry.Crash
 move_first (turn.Boot choices) = move.Boot choices.items
 move_first (turn.Act c next choices) = move.Act c.number choices.items
 
+-- the acts of a call that come after one under these choices, and those of the calls from a place on
+abbrev pub acts_later : Spec → Node → Waiting → ℕ → List ℕ → List (Move Value)
+acts_later s n c next choices =
+    map (λ cs. move.Act c.number cs) (later_of_op s (slice_get s.ops c.op) c.args.now n.fields.values choices)
+    ++ acts_from s n.fields.values (drop next n.waiting.items)
+
+-- the boots that come after one under these choices, and all acts
+abbrev pub boots_later : Spec → Node → List ℕ → List (Move Value)
+boots_later s n choices =
+    map (λ cs. move.Boot cs) (later_lists s.store (fields_bound s.fields n.fields.values) s.crash_picks choices)
+    ++ acts_from s n.fields.values n.waiting.items
+
 -- the moves that come after it
 abbrev pub moves_later : Spec → Node → turns.Turn → List (Move Value)
-moves_later s n (turn.Boot choices) =
-    map (λ cs. move.Boot cs) (later_lists s.store (fields_bound s.fields n.fields.values) s.crash_picks choices.items)
-    ++ acts_from s n.fields.values n.waiting.items
-moves_later s n (turn.Act c next choices) =
-    map (λ cs. move.Act c.number cs) (later_of_op s (slice_get s.ops c.op) c.args.now n.fields.values choices.items)
-    ++ acts_from s n.fields.values (drop next n.waiting.items)
+moves_later s n (turn.Boot choices) = boots_later s n choices.items
+moves_later s n (turn.Act c next choices) = acts_later s n c next choices.items
 moves_later s n (turn.Call c) = acts_from s n.fields.values n.waiting.items
 moves_later s n (turn.Answer number reply) = acts_from s n.fields.values n.waiting.items
 moves_later s n turn.Crash = acts_from s n.fields.values n.waiting.items
@@ -50,11 +60,15 @@ abbrev pub turn_moves : Spec → Node → Option turns.Turn → List (Move Value
 turn_moves s n None = []
 turn_moves s n (Some t) = move_first t ∷ moves_later s n t
 
--- a turn is one of the node: a call is of an operation, and an act is of a call that has not acted
-abbrev pub IsTurn : Spec → Node → Option turns.Turn → Type 0
-IsTurn s n None = Unit {0}
-IsTurn s n (Some (turn.Call c)) = c.op < length s.ops
-IsTurn s n (Some (turn.Answer number reply)) = Unit {0}
-IsTurn s n (Some turn.Crash) = Unit {0}
-IsTurn s n (Some (turn.Boot choices)) = Unit {0}
-IsTurn s n (Some (turn.Act c next choices)) = (waiting_under n.waiting.items c.number ≡ Some (c.op, c.args.now)) × (c.op < length s.ops)
+-- a turn is one of the node: a call is the history's next entry and of an operation, and an act is of a call that has not acted
+abbrev pub IsTurn : Spec → List held_entry.Entry → Node → Option turns.Turn → Type 0
+IsTurn s history n None = Unit {0}
+IsTurn s history n (Some (turn.Call c)) = (slice_get history n.place ≡ Some (held.Call c.number c.op c.args.now)) × (c.op < length s.ops)
+IsTurn s history n (Some (turn.Answer number reply)) = Unit {0}
+IsTurn s history n (Some turn.Crash) = Unit {0}
+IsTurn s history n (Some (turn.Boot choices)) = Unit {0}
+IsTurn s history n (Some (turn.Act c next choices)) = (waiting_under n.waiting.items c.number ≡ Some (c.op, c.args.now)) × (c.op < length s.ops)
+
+-- a turn that shows no call is one of the node whatever the history
+abbrev pub IsLaterTurn : Spec → Node → Option turns.Turn → Type 0
+IsLaterTurn s n o = (history : List held_entry.Entry) → IsTurn s history n o

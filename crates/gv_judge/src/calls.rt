@@ -1,13 +1,10 @@
 //! The calls that are in the table.
 
-ghost use Rattle.std.specs.Prelude.{◌≡◌, ◌↔◌, ◌++◌, ◌∷◌, [], IfOk, IsTrue, map};
+ghost use Rattle.std.specs.Prelude.{◌≡◌, IfOk};
 ghost use Rattle.std.specs.Option.{option_copied};
-ghost use Rattle.gv_spec.specs.History.{entry_of};
-ghost use Rattle.gv_judge.specs.SearchLaws.{IsIn};
-ghost use Rattle.gv_judge.specs.Calls.{put_in, taken_out, kept_under, kept_without, numbers_called};
+ghost use Rattle.gv_judge.specs.Calls.{put_in, taken_out, kept_under, kept_without};
 
 use gv_base::{List, NoMemory};
-use gv_spec::Entry;
 use gv_terms::Value;
 use std::alloc::Global;
 
@@ -125,30 +122,6 @@ pub fn kept_under(calls: &[Kept], number: u32) -> Option<&Value>
         left = rest;
     }
     None
-}
-
-/// Whether a call among these entries bears the number.
-pub fn was_called(entries: &[Entry], number: u32) -> bool
-    ensures { IsTrue result ↔ IsIn number (numbers_called (map entry_of entries.now)) }
-{
-    let mut left = entries;
-    while let [entry, rest @ ..] = left {
-        if is_call_under(entry, number) {
-            return true;
-        }
-        left = rest;
-    }
-    false
-}
-
-// Whether an entry is a call under a number.
-fn is_call_under(entry: &Entry, number: u32) -> bool
-    ensures { IsTrue result ↔ IsIn number (numbers_called (entry_of entry.now ∷ [])) }
-{
-    match entry {
-        Entry::Call { number: n, .. } => number == *n,
-        _ => false,
-    }
 }
 
 impl Kept {

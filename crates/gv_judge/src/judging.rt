@@ -6,6 +6,7 @@ ghost use Rattle.gv_judge.specs.Bound.{IsOneByOne};
 ghost use Rattle.gv_judge.specs.Explained.{PicksNothing};
 ghost use Rattle.gv_judge.specs.Judged.{IsJudgement, Tells, AreMovesOf, IsDecided};
 
+use crate::repeats::repeats;
 use crate::search::Search;
 use gv_base::{List, NoMemory};
 use gv_spec::{Entry, Move, Spec};
@@ -48,6 +49,7 @@ fn go_through(alloc: Global, spec: &Spec, history: &[Entry], most: u64) -> Resul
     requires { All (IsEntryOf spec.now) history.now }
     ensures { IfOk result (IsJudgement spec.now history.now most) }
 {
+    let repeats = repeats(alloc, history)?;
     let mut search = Search::start(alloc, spec, history)?;
     for _visited in 0..most {
         if search.is_full {
@@ -55,7 +57,7 @@ fn go_through(alloc: Global, spec: &Spec, history: &[Entry], most: u64) -> Resul
                 moves: search.moves,
             });
         }
-        if !search.next(alloc, spec, history)? {
+        if !search.next(alloc, spec, history, repeats.as_slice())? {
             return Ok(Judged::No);
         }
     }

@@ -6,6 +6,7 @@ mod choices;
 mod judging;
 mod laws;
 mod node;
+mod repeats;
 mod search;
 mod turn;
 

@@ -1,20 +1,19 @@
 //! Where a node stands: the fields, the calls in the table, and how much of the history is shown.
 
-ghost use Rattle.std.specs.Prelude.{◌≡◌, ◌+◌, ◌<◌, ◌≤◌, ◌^◌, [], length, take, map, IfOk, Some};
+ghost use Rattle.std.specs.Prelude.{◌≡◌, ◌+◌, ◌<◌, ◌^◌, [], length, IfOk, Some};
 ghost use Rattle.gv_atomic.specs.declared.spec.Spec.{Spec as Written};
 ghost use Rattle.gv_spec.specs.Atomic.{atomic_of};
-ghost use Rattle.gv_spec.specs.History.{entry_of};
 ghost use Rattle.gv_spec.specs.Entry as entry;
 ghost use Rattle.gv_spec.specs.Move as move;
 ghost use Rattle.gv_spec.specs.Walks.{first_walk};
 ghost use Rattle.gv_judge.specs.Calls.{waiting_under};
-ghost use Rattle.gv_judge.specs.Node.{StandsAt, StandsHere, Takes};
+ghost use Rattle.gv_judge.specs.Node.{StandsAt, StandsHere, Takes, TakesCall};
 
 use crate::calls::{
-    Kept, Waiting, kept_under, kept_without, put_in, same_kept, same_waiting, taken_out, was_called,
+    Kept, Waiting, kept_under, kept_without, put_in, same_kept, same_waiting, taken_out,
 };
 use gv_base::{List, NoMemory};
-use gv_spec::{Entry, Spec, State, apply, crashed, init};
+use gv_spec::{Spec, State, apply, crashed, init};
 use gv_terms::Value;
 use std::alloc::Global;
 
@@ -41,18 +40,17 @@ impl<'h> Node<'h> {
         })
     }
 
-    /// A call starts, where its number was never used.
+    /// A call starts, unless its number was used.
     pub fn call(
         &self,
         alloc: Global,
-        history: &[Entry],
         new: Waiting<'h>,
+        is_repeat: bool,
     ) -> Result<Option<Node<'h>>, NoMemory>
-        requires { self.now.place ≤ length history.now }
-        ensures { IfOk result (λ o. (s : Written) → new.entry.op < length s.ops → StandsHere s self.now (λ before w.
-            before ≡ map entry_of (take self.now.place history.now) → Takes s before w (move.Other (entry.Call new.entry.number new.entry.op new.entry.args.now)) o)) }
+        requires { self.now.place + 1 < 2 ^ 64 }
+        ensures { IfOk result (TakesCall self.now new.entry is_repeat) }
     {
-        if was_called(&history[..self.place], new.number) {
+        if is_repeat {
             return Ok(None);
         }
         Ok(Some(Node {

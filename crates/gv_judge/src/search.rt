@@ -1,13 +1,11 @@
 //! The nodes of the search, one after another.
 
-ghost use Rattle.std.specs.Prelude.{◌≡◌, ◌≤◌, ◌∷◌, [], length, map, reverse, take, All, IfOk, List as Lists, Some};
-ghost use Rattle.gv_spec.specs.History.{entry_of, move_of, IsEntryOf};
-ghost use Rattle.gv_spec.specs.Move.{Move as Moves};
-ghost use Rattle.gv_terms.specs.declared.value.Value.{Value as Values};
-ghost use Rattle.gv_judge.specs.Explained.{search_order};
+ghost use Rattle.std.specs.Prelude.{◌≡◌, ◌≤◌, [], length, map, take, All, IfOk, Some};
+ghost use Rattle.gv_spec.specs.History.{entry_of, IsEntryOf};
 ghost use Rattle.gv_judge.specs.Node.{StandsHere, Takes};
 ghost use Rattle.gv_judge.specs.Turn.{move_first, IsTurn};
-ghost use Rattle.gv_judge.specs.Open.{AreLeft, IsAt, Advances, Goes, framed};
+ghost use Rattle.gv_judge.specs.Repeats.{AreRepeats};
+ghost use Rattle.gv_judge.specs.Open.{Advances, Begins, GoesFrom, HasTaken, Stands};
 
 use crate::node::Node;
 use crate::turn::{Turn, first_turn};
@@ -36,7 +34,7 @@ impl<'h> Search<'h> {
     pub fn start(alloc: Global, spec: &Spec, history: &'h [Entry]) -> Result<Search<'h>, NoMemory>
         requires { All (IsEntryOf spec.now) history.now }
         ensures none { IfOk result (λ x. x.moves ≡ []) }
-        ensures at { IfOk result (λ x. (todo : Lists (Lists (Moves Values))) × (search_order spec.now history.now ≡ [] ∷ todo) × IsAt spec.now history.now x todo) }
+        ensures at { IfOk result (Begins spec.now history.now) }
     {
         let node = Node::first(alloc, spec)?;
         let turn = first_turn(alloc, spec, history, &node)?;
@@ -55,10 +53,12 @@ impl<'h> Search<'h> {
         alloc: Global,
         spec: &Spec,
         history: &'h [Entry],
+        repeats: &[bool],
     ) -> Result<bool, NoMemory>
         requires entries { All (IsEntryOf spec.now) history.now }
-        requires at { (todo : Lists (Lists (Moves Values))) × IsAt spec.now history.now self.old todo }
-        ensures { IfOk result (λ b. (todo : Lists (Lists (Moves Values))) → IsAt spec.now history.now self.old todo → Goes spec.now history.now b self.new todo) }
+        requires repeats { AreRepeats history.now repeats.now }
+        requires at { Stands spec.now history.now self.old }
+        ensures { IfOk result (GoesFrom spec.now history.now self.old self.new) }
     {
         while let Some(Frame { node, turn }) = self.frames.pop() {
             match turn {
@@ -66,7 +66,7 @@ impl<'h> Search<'h> {
                     let _ = self.moves.pop();
                 }
                 Some(turn) => {
-                    if self.take(alloc, spec, history, node, turn)? {
+                    if self.take(alloc, spec, history, repeats, node, turn)? {
                         return Ok(true);
                     }
                 }
@@ -81,15 +81,16 @@ impl<'h> Search<'h> {
         alloc: Global,
         spec: &Spec,
         history: &'h [Entry],
+        repeats: &[bool],
         node: Node<'h>,
         turn: Turn<'h>,
     ) -> Result<bool, NoMemory>
         requires entries { All (IsEntryOf spec.now) history.now }
-        requires at { (todo : Lists (Lists (Moves Values)))
-            × AreLeft spec.now history.now (framed node turn ∷ reverse self.old.frames.items) (map move_of self.old.moves) todo }
+        requires repeats { AreRepeats history.now repeats.now }
+        requires at { HasTaken spec.now history.now node turn self.old }
         ensures { IfOk result (λ b. Advances spec.now history.now b node.entry turn.entry self.old self.new) }
     {
-        let child = after(alloc, spec, history, &node, &turn)?;
+        let child = after(alloc, spec, history, repeats, &node, &turn)?;
         let shown = turn.first_move(alloc)?;
         let later = turn.later(alloc, spec, &node)?;
         self.frames.push(Frame { node, turn: later })?;
@@ -111,16 +112,18 @@ fn after<'h>(
     alloc: Global,
     spec: &Spec,
     history: &'h [Entry],
+    repeats: &[bool],
     node: &Node<'h>,
     turn: &Turn<'h>,
 ) -> Result<Option<Node<'h>>, NoMemory>
+    requires repeats { AreRepeats history.now repeats.now }
     requires place { node.now.place ≤ length history.now }
-    requires turn { IsTurn spec.now node.now (Some turn.now) }
+    requires turn { IsTurn spec.now history.now node.now (Some turn.now) }
     ensures { IfOk result (λ o. StandsHere spec.now node.now (λ before w. before ≡ map entry_of (take node.now.place history.now)
         → Takes spec.now before w (move_first turn.now) o)) }
 {
     match turn {
-        Turn::Call(new) => node.call(alloc, history, *new),
+        Turn::Call(new) => node.call(alloc, *new, repeats[node.place]),
         Turn::Answer { number, reply } => node.answer(alloc, *number, reply),
         Turn::Crash => Ok(Some(node.crash(alloc)?)),
         Turn::Boot { choices } => node.boot(alloc, spec, choices.as_slice()),

@@ -1,16 +1,14 @@
 //! What is added next to a node.
 
-ghost use Rattle.std.specs.Prelude.{◌≡◌, ◌<◌, ◌++◌, length, drop, map, slice_get, All, IfOk, Some};
-ghost use Rattle.gv_atomic.specs.Specification.{fields_bound};
-ghost use Rattle.gv_spec.specs.Move as move;
+ghost use Rattle.std.specs.Prelude.{◌≡◌, ◌<◌, ◌++◌, length, drop, map, All, IfOk, List as Lists, Some};
+ghost use Rattle.gv_spec.specs.declared.entry.Entry.{Entry as HeldEntry};
 ghost use Rattle.gv_spec.specs.Atomic.{atomic_of};
 ghost use Rattle.gv_spec.specs.History.{entry_of, move_of, IsEntryOf};
 ghost use Rattle.gv_judge.specs.Choosing.{choosing_of};
 ghost use Rattle.gv_judge.specs.Search.{showing};
 ghost use Rattle.gv_judge.specs.Calls.{waiting_under};
-ghost use Rattle.gv_judge.specs.Later.{later_lists};
 ghost use Rattle.gv_judge.specs.Node.{IsReady};
-ghost use Rattle.gv_judge.specs.Turn.{acts_from, later_of_op, move_first, moves_later, turn_moves, IsTurn};
+ghost use Rattle.gv_judge.specs.Turn.{acts_from, acts_later, boots_later, move_first, moves_later, turn_moves, IsTurn, IsLaterTurn};
 
 use crate::calls::Waiting;
 use crate::choices::{first_choices, next_choices};
@@ -53,7 +51,7 @@ pub fn first_turn<'h>(
     ensures moves { IfOk result (λ o. turn_moves spec.now node.now o
         ≡ showing (atomic_of spec.now) (choosing_of spec.now) node.now.fields.values (map entry_of (drop node.now.place history.now))
         ++ acts_from spec.now node.now.fields.values node.now.waiting.items) }
-    ensures turn { IfOk result (λ o. IsTurn spec.now node.now o) }
+    ensures turn { IfOk result (IsTurn spec.now history.now node.now) }
 {
     match history.get(node.place) {
         None => first_act(alloc, spec, node, 0),
@@ -81,10 +79,8 @@ fn later_boot<'h>(
     choices: &[u64],
 ) -> Result<Option<Turn<'h>>, NoMemory>
     requires { IsReady spec.now node.now }
-    ensures moves { IfOk result (λ o. turn_moves spec.now node.now o
-        ≡ map (λ cs. move.Boot cs) (later_lists spec.now.store (fields_bound spec.now.fields node.now.fields.values) spec.now.crash_picks choices.now)
-        ++ acts_from spec.now node.now.fields.values node.now.waiting.items) }
-    ensures turn { IfOk result (λ o. IsTurn spec.now node.now o) }
+    ensures moves { IfOk result (λ o. turn_moves spec.now node.now o ≡ boots_later spec.now node.now choices.now) }
+    ensures turn { IfOk result (IsLaterTurn spec.now node.now) }
 {
     let before = crash_before(alloc, spec, &node.fields)?;
     match next_choices(alloc, &spec.store, before, crash_parts(spec).0, choices)? {
@@ -105,10 +101,8 @@ fn later_act<'h>(
     requires node { IsReady spec.now node.now }
     requires waits { waiting_under node.now.waiting.items call.number ≡ Some (call.op, call.args.now) }
     requires op { call.op < length spec.now.ops }
-    ensures moves { IfOk result (λ o. turn_moves spec.now node.now o
-        ≡ map (λ cs. move.Act call.entry.number cs) (later_of_op spec.now (slice_get spec.now.ops call.entry.op) call.entry.args.now node.now.fields.values choices.now)
-        ++ acts_from spec.now node.now.fields.values (drop next node.now.waiting.items)) }
-    ensures turn { IfOk result (λ o. IsTurn spec.now node.now o) }
+    ensures moves { IfOk result (λ o. turn_moves spec.now node.now o ≡ acts_later spec.now node.now call.entry next choices.now) }
+    ensures turn { IfOk result (IsLaterTurn spec.now node.now) }
 {
     let op = operation(spec, call.op);
     let before = op_before(alloc, spec, &node.fields, op, call.args.as_slice())?;
@@ -131,7 +125,7 @@ fn first_act<'h>(
 ) -> Result<Option<Turn<'h>>, NoMemory>
     requires { IsReady spec.now node.now }
     ensures moves { IfOk result (λ o. turn_moves spec.now node.now o ≡ acts_from spec.now node.now.fields.values (drop place node.now.waiting.items)) }
-    ensures turn { IfOk result (λ o. IsTurn spec.now node.now o) }
+    ensures turn { IfOk result (IsLaterTurn spec.now node.now) }
 {
     match node.waiting.as_slice().get(place) {
         None => Ok(None),
@@ -180,9 +174,9 @@ impl<'h> Turn<'h> {
         node: &Node<'h>,
     ) -> Result<Option<Turn<'h>>, NoMemory>
         requires node { IsReady spec.now node.now }
-        requires turn { IsTurn spec.now node.now (Some self.now) }
+        requires turn { (history : Lists HeldEntry) × IsTurn spec.now history node.now (Some self.now) }
         ensures moves { IfOk result (λ o. turn_moves spec.now node.now o ≡ moves_later spec.now node.now self.now) }
-        ensures turn { IfOk result (λ o. IsTurn spec.now node.now o) }
+        ensures turn { IfOk result (IsLaterTurn spec.now node.now) }
     {
         match self {
             Turn::Boot { choices } => later_boot(alloc, spec, node, choices.as_slice()),

@@ -1,4 +1,4 @@
-use Rattle.std.proofs.Common.{◌≡◌, ◌++◌, length}
+use Rattle.std.proofs.Common.{◌≡◌, length}
 use Rattle.gv_judge.specs.Calls.{kept_under}
 use Rattle.gv_judge.proofs.calls.kept_under.Given as goal
 

@@ -1,4 +1,4 @@
-use Rattle.std.proofs.Common.{◌≡◌, length, take}
+use Rattle.std.proofs.Common.{length}
 use Rattle.gv_judge.proofs.LastRaised.{HasCome}
 use Rattle.gv_judge.proofs.choices.last_raised.Given as goal
 

@@ -1,5 +1,5 @@
 use Rattle.std.proofs.Common.{◌≡◌, ◌<◌, arith}
-use Rattle.gv_judge.proofs.Visits.{HasVisited, none_visited, more_visited, none_full, is_spent, goes_on, goes_not}
+use Rattle.gv_judge.proofs.Visits.{none_visited, more_visited, none_full, is_spent, goes_on, goes_not}
 use Rattle.gv_judge.proofs.judging.go_through.Goals as goal
 
 pub loop-visited-init : goal.loop-visited-init

@@ -1,7 +1,7 @@
-use Rattle.std.proofs.Common.{◌≡◌, subst}
+use Rattle.std.proofs.Common.{subst}
 use Rattle.std.specs.Prelude.{IfOk}
 use Rattle.std.proofs.lemmas.Result.{IfOk-weaker}
-use Rattle.gv_judge.specs.Judged.{IsJudgement, Tells, IsDecided}
+use Rattle.gv_judge.specs.Judged.{IsJudgement, Tells}
 use Rattle.gv_judge.proofs.MovesOf.{judged_of_spec}
 use Rattle.gv_judge.proofs.Visits.{tells, decides}
 use Rattle.gv_judge.proofs.judging.judge.Goals as goal

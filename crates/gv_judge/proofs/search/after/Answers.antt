@@ -3,14 +3,19 @@ use Rattle.std.proofs.lemmas.Result.{IfOk-weaker}
 use Rattle.gv_spec.specs.Move as move
 use Rattle.gv_judge.specs.Node.{Takes}
 use Rattle.gv_judge.specs.Turn.{move_first, IsTurn}
+use Rattle.gv_judge.proofs.RepeatLaws.{told_there}
 use Rattle.gv_judge.proofs.search.after.Goals as goal
 
 pub returns-in-Call : goal.returns-in-Call
 returns-in-Call c =
     let s = c.args.spec.now in
+    let history = c.args.history.now in
+    let new = c.in-Call.new in
+    let turn = subst (λ t. IsTurn s c.args.history.now c.args.node.now (Some t)) c.in-Call.is c.requires.turn in
     IfOk-weaker c.call.result _ _
     (λ o h before w stands at. subst (λ t. Takes s before w (move_first t) o) (sym c.in-Call.is)
-    (h s (subst (λ t. IsTurn s c.args.node.now (Some t)) c.in-Call.is c.requires.turn) before w stands at)) c.call.ensures
+    (h s turn.1 before w stands
+    (told_there history c.args.repeats.now c.args.node.now.place new.number new.op new.args.now before c.requires.repeats turn.0 at))) c.call.ensures
 
 pub returns-in-Answer : goal.returns-in-Answer
 returns-in-Answer c =
@@ -26,7 +31,7 @@ returns-in-Boot c =
 pub returns-in-Act : goal.returns-in-Act
 returns-in-Act c =
     let s = c.args.spec.now in
-    let turn = subst (λ t. IsTurn s c.args.node.now (Some t)) c.in-Act.is c.requires.turn in
+    let turn = subst (λ t. IsTurn s c.args.history.now c.args.node.now (Some t)) c.in-Act.is c.requires.turn in
     IfOk-weaker c.act.result _ _ (λ o h before w stands at. subst (λ t. Takes s before w (move_first t) o) (sym c.in-Act.is)
     (subst (λ cs. Takes s before w (move.Act c.in-Act.call.number cs) o) c.as_slice-in-Act.ensures.value (h turn.0 before w stands))) c.act.ensures
 

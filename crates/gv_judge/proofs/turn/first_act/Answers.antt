@@ -32,4 +32,4 @@ returns-in_ok-first_choices-in-Some-clause-turn c =
     let read = c.in-Some.ensures.lookup in
     let at = call_at (length s.ops) 0 items c.args.place call c.requires
     (ap (λ l. slice_get l c.args.place) (sym c.as_slice.ensures.value) ∙ read_at c.as_slice.result.now c.args.place call read.3.0 read.1) in
-    (at.0, at.1)
+    λ _. (at.0, at.1)

@@ -1,4 +1,4 @@
-use Rattle.std.proofs.Common.{◌≡◌, ◌++◌, [], List, ℕ, map, drop, Some, None, sym, ap, subst, ◌∙◌}
+use Rattle.std.proofs.Common.{◌++◌, map, drop, sym, ap, subst, ◌∙◌}
 use Rattle.std.specs.Prelude.{option_map}
 use Rattle.std.proofs.lemmas.Result.{IfOk-weaker}
 use Rattle.gv_atomic.specs.Specification.{ArePicksWithin, op_before}

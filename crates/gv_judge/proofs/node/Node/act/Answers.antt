@@ -1,8 +1,6 @@
-use Rattle.std.proofs.Common.{◌≡◌, ◌++◌, ◌∷◌, [], ℕ, List, Option, Some, None, refl, sym, ap, ◌∙◌}
+use Rattle.std.proofs.Common.{◌++◌, ◌∷◌, [], refl, sym, ap, ◌∙◌}
 use Rattle.std.specs.Prelude.{option_map}
 use Rattle.gv_spec.specs.Atomic.{atomic_of}
-use Rattle.gv_judge.specs.declared.calls.Kept.{Kept}
-use Rattle.gv_judge.specs.declared.node.Node.{Node}
 use Rattle.gv_judge.specs.Calls.{taken_out}
 use Rattle.gv_judge.proofs.Standing.{act_refused, act_taken}
 use Rattle.gv_judge.proofs.node.Node.act.Goals as goal

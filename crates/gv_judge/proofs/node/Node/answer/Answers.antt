@@ -1,4 +1,4 @@
-use Rattle.std.proofs.Common.{◌≡◌, ◌+◌, true, Bool, Some, None, refl, sym, ap, ◌∙◌}
+use Rattle.std.proofs.Common.{◌+◌, refl, sym, ap, ◌∙◌}
 use Rattle.gv_judge.specs.declared.node.Node.{Node}
 use Rattle.gv_judge.specs.Calls.{kept_under, kept_without}
 use Rattle.gv_judge.proofs.LastRaised.{told_false}

@@ -1,4 +1,4 @@
-use Rattle.std.proofs.Common.{◌+◌, Some, None, refl, ap, ◌∙◌}
+use Rattle.std.proofs.Common.{◌+◌, refl, ap, ◌∙◌}
 use Rattle.std.specs.Prelude.{option_map}
 use Rattle.gv_judge.specs.declared.node.Node.{Node}
 use Rattle.gv_judge.proofs.Standing.{boot_refused, boot_taken}

@@ -1,4 +1,4 @@
-use Rattle.std.proofs.Common.{◌≡◌, ◌<◌, ◌++◌, ◌∷◌, [], map, Some, None, rules, arith, sym, ap, subst, ◌∙◌}
+use Rattle.std.proofs.Common.{◌≡◌, ◌<◌, ◌++◌, ◌∷◌, [], map, None, rules, arith, ap, subst}
 use Rattle.std.specs.Prelude.{reverse}
 use Rattle.gv_spec.specs.History.{move_of}
 use Rattle.gv_judge.specs.declared.search.Frame.{Frame}

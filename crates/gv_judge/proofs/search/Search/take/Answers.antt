@@ -1,4 +1,4 @@
-use Rattle.std.proofs.Common.{◌≡◌, ◌++◌, ◌∷◌, [], eqb, eqb-true, eq-eqb, length, map, Some, None, refl, sym, ap, subst, ◌∙◌}
+use Rattle.std.proofs.Common.{◌++◌, ◌∷◌, [], eqb, eqb-true, eq-eqb, length, map, refl, ap, subst, ◌∙◌}
 use Rattle.std.specs.Prelude.{reverse}
 use Rattle.gv_spec.specs.History.{move_of}
 use Rattle.gv_judge.specs.declared.search.Search.{Search}
@@ -17,7 +17,7 @@ returns-in-None c =
     let s = c.args.spec.now in
     let h = c.args.history.now in
     let new : Search = record { frames = c.push.new.self; moves = c.args.self.now.moves; is_full = c.args.self.now.is_full } in
-    stayed s h c.args.node c.args.turn c.in_ok-later.later c.args.self.now new c.in_ok-later.ensures.moves c.in_ok-later.ensures.turn
+    stayed s h c.args.node c.args.turn c.in_ok-later.later c.args.self.now new c.in_ok-later.ensures.moves (c.in_ok-later.ensures.turn h)
     (subst (IsAfter s h c.args.node c.args.turn) c.in-None.is c.in_ok-child.ensures) c.in_ok-push.ensures.items refl
 
 pub returns : goal.returns
@@ -26,7 +26,7 @@ returns c =
     let h = c.args.history.now in
     let child = c.in-Some.child in
     let new : Search = record { frames = c.push-in-Some.new.self; moves = c.push-in-Some-2.new.self; is_full = eqb c.in-Some.child.place (length c.args.history.now) } in
-    advanced s h c.args.node c.args.turn c.in_ok-later.later c.args.self.now new c.in_ok-later.ensures.moves c.in_ok-later.ensures.turn child c.in_ok-turn-in-Some.turn
+    advanced s h c.args.node c.args.turn c.in_ok-later.later c.args.self.now new c.in_ok-later.ensures.moves (c.in_ok-later.ensures.turn h) child c.in_ok-turn-in-Some.turn
     c.in_ok-shown.shown (subst (IsAfter s h c.args.node c.args.turn) c.in-Some.is c.in_ok-child.ensures) c.in_ok-turn-in-Some.ensures.moves c.in_ok-turn-in-Some.ensures.turn
     c.in_ok-shown.ensures
     (c.in_ok-push-in-Some.ensures.items ∙ ap (λ l. l ++ (record { node = c.in-Some.child; turn = c.in_ok-turn-in-Some.turn }) ∷ []) c.in_ok-push.ensures.items)
