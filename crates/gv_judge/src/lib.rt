@@ -3,6 +3,7 @@
 
 mod calls;
 mod choices;
+mod fields;
 mod judging;
 mod laws;
 mod node;

@@ -12,8 +12,9 @@ ghost use Rattle.gv_judge.specs.Node.{StandsAt, StandsHere, Takes, TakesCall};
 use crate::calls::{
     Kept, Waiting, kept_under, kept_without, put_in, same_kept, same_waiting, taken_out,
 };
+use crate::fields::Fields;
 use gv_base::{List, NoMemory};
-use gv_spec::{Spec, State, apply, crashed, init};
+use gv_spec::{Spec, apply, crashed, init};
 use gv_terms::Value;
 use std::alloc::Global;
 
@@ -21,7 +22,7 @@ use std::alloc::Global;
 /// not answered, and how many entries of the history are shown. This project's own.
 #[derive(Drop)]
 pub struct Node<'h> {
-    pub fields: State,
+    pub fields: Fields,
     pub waiting: Vec<Waiting<'h>>,
     pub acted: Vec<Kept>,
     pub place: usize,
@@ -33,7 +34,7 @@ impl<'h> Node<'h> {
         ensures { IfOk result (λ n. StandsAt spec.now [] n (first_walk (atomic_of spec.now))) }
     {
         Ok(Node {
-            fields: init(alloc, spec)?,
+            fields: Fields::new(alloc, init(alloc, spec)?)?,
             waiting: Vec::new(alloc),
             acted: Vec::new(alloc),
             place: 0,
@@ -54,7 +55,7 @@ impl<'h> Node<'h> {
             return Ok(None);
         }
         Ok(Some(Node {
-            fields: self.fields.copy(alloc)?,
+            fields: self.fields.share()?,
             waiting: put_in(alloc, self.waiting.as_slice(), new)?,
             acted: same_kept(alloc, self.acted.as_slice())?,
             place: self.place + 1,
@@ -78,7 +79,7 @@ impl<'h> Node<'h> {
                     return Ok(None);
                 }
                 Ok(Some(Node {
-                    fields: self.fields.copy(alloc)?,
+                    fields: self.fields.share()?,
                     waiting: same_waiting(alloc, self.waiting.as_slice())?,
                     acted: kept_without(alloc, self.acted.as_slice(), number)?,
                     place: self.place + 1,
@@ -93,7 +94,7 @@ impl<'h> Node<'h> {
         ensures { IfOk result (λ n. (s : Written) → StandsHere s self.now (λ before w. Takes s before w (move.Other entry.Crash) (Some n))) }
     {
         Ok(Node {
-            fields: self.fields.copy(alloc)?,
+            fields: self.fields.share()?,
             waiting: same_waiting(alloc, self.waiting.as_slice())?,
             acted: same_kept(alloc, self.acted.as_slice())?,
             place: self.place + 1,
@@ -110,14 +111,17 @@ impl<'h> Node<'h> {
         requires { self.now.place + 1 < 2 ^ 64 }
         ensures { IfOk result (λ o. StandsHere spec.now self.now (λ before w. Takes spec.now before w (move.Boot choices.now) o)) }
     {
-        match crashed(alloc, spec, &self.fields, choices)? {
+        match crashed(alloc, spec, self.fields.state(), choices)? {
             None => Ok(None),
-            Some(fields) => Ok(Some(Node {
-                fields,
-                waiting: Vec::new(alloc),
-                acted: Vec::new(alloc),
-                place: self.place + 1,
-            })),
+            Some(state) => {
+                let fields = Fields::new(alloc, state)?;
+                Ok(Some(Node {
+                    fields,
+                    waiting: Vec::new(alloc),
+                    acted: Vec::new(alloc),
+                    place: self.place + 1,
+                }))
+            }
         }
     }
 
@@ -136,13 +140,14 @@ impl<'h> Node<'h> {
         match apply(
             alloc,
             spec,
-            &self.fields,
+            self.fields.state(),
             call.op,
             call.args.as_slice(),
             choices,
         )? {
             None => Ok(None),
-            Some((fields, reply)) => {
+            Some((state, reply)) => {
+                let fields = Fields::new(alloc, state)?;
                 let number = call.number;
                 let mut acted = same_kept(alloc, self.acted.as_slice())?;
                 acted.push(Kept { number, reply })?;

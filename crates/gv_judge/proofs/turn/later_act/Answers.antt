@@ -17,7 +17,7 @@ returns-in-Some-clause-moves c =
     let call = c.args.call in
     let o = c.operation-op.result.now in
     let later = later_op s n.fields.values call o c.in_ok-before.before.bindings c.as_slice-2.result.now c.args.choices.now _ c.operation-op.ensures.is c.as_slice-2.ensures
-    (c.in_ok-before.ensures ∙ ap (λ vs. op_before s o vs n.fields.values) c.as_slice.ensures) c.in_ok-choices.ensures in
+    (c.in_ok-before.ensures ∙ ap (λ f. op_before s o c.as_slice.result.now f.values) c.state.ensures ∙ ap (λ vs. op_before s o vs n.fields.values) c.as_slice.ensures) c.in_ok-choices.ensures in
     sym (ap (λ ls. map (λ cs. move.Act call.number cs) ls ++ acts_from s n.fields.values (drop c.args.next n.waiting.items))
     (later ∙ ap (λ o. from_op s n.fields.values call (option_map (λ v. v.items) o)) c.in-Some.is))
 
@@ -28,7 +28,7 @@ returns-in-None-clause-moves c =
     let call = c.args.call in
     let o = c.operation-op.result.now in
     let later = later_op s n.fields.values call o c.in_ok-before.before.bindings c.as_slice-2.result.now c.args.choices.now _ c.operation-op.ensures.is c.as_slice-2.ensures
-    (c.in_ok-before.ensures ∙ ap (λ vs. op_before s o vs n.fields.values) c.as_slice.ensures) c.in_ok-choices.ensures in
+    (c.in_ok-before.ensures ∙ ap (λ f. op_before s o c.as_slice.result.now f.values) c.state.ensures ∙ ap (λ vs. op_before s o vs n.fields.values) c.as_slice.ensures) c.in_ok-choices.ensures in
     let none = later ∙ ap (λ o. from_op s n.fields.values call (option_map (λ v. v.items) o)) c.in-None.is in
     IfOk-weaker c.first_act.result _ _
     (λ t h. h ∙ sym (ap (λ ls. map (λ cs. move.Act call.number cs) ls ++ acts_from s n.fields.values (drop c.args.next n.waiting.items)) none)) c.first_act.ensures.moves
