@@ -79,6 +79,15 @@ fn last_raised(
     Ok(last)
 }
 
+// The bound of a pick.
+fn limit(alloc: Global, store: &TermStore, env: &Env, pick: &Pick) -> Result<u64, NoMemory>
+    requires { pick.now.bound.id < length store.now }
+    ensures { IfOk result (λ n. n ≡ limit_of store.now env.now.bindings pick.now) }
+{
+    let bound = eval(alloc, store, pick.bound, env)?;
+    Ok(bound.word())
+}
+
 // Whether a pick may be a greater number.
 fn can_rise(
     alloc: Global,
@@ -91,7 +100,7 @@ fn can_rise(
     ensures rises { IfOk result (λ b. IsTrue b ↔ (choice + 1 < how_many (limit_of store.now env.now.bindings pick.now))) }
     ensures word { IfOk result (λ b. IsTrue b → choice + 1 < 2 ^ 64) }
 {
-    let limit = eval(alloc, store, pick.bound, env)?.word();
+    let limit = limit(alloc, store, env, pick)?;
     Ok(limit > 0 && choice < limit - 1)
 }
 
