@@ -1,13 +1,9 @@
--- A check, file by file.
+-- A command, file by file.
 use Rattle.std.proofs.Common.{◌≡◌, ℕ, List, Result, Ok, Err, subst, inl, inr}
 use Rattle.gv_base.specs.Outside.{Told}
-use Rattle.gv_base.specs.declared.small.Small.{Small}
-use Rattle.gv_top.specs.declared.check.Verdict.{Verdict}
+use Rattle.gv_report.specs.declared.format.Format.{Format}
 use Rattle.gv_top.specs.declared.files.Halt.{Halt}
-use Rattle.gv_top.specs.declared.small_script.SmallScript.{SmallScript}
-use Rattle.gv_top.specs.Check.{Checks, Compares}
-use Rattle.gv_top.specs.Files.{Form, Source, outside, HaltsAt, Reads}
-use Rattle.gv_top.specs.Forms.{packages, specs_for, scripts_for}
+use Rattle.gv_top.specs.Files.{Form, Source, Course, Then, Opens, outside, HaltsAt, Reads}
 
 -- ---- files that hold the same
 
@@ -18,21 +14,20 @@ module _ (held later : List ℕ → Told) (kept : (n : List ℕ) → later n ≡
   pub reads_later : {A : Type 0} (form : Form A) (name : List ℕ) (x : A) → Reads (outside later) form name x → Reads (outside held) form name x
   reads_later form name x h = subst (λ (f : List ℕ → Told). Reads (outside f) form name x) same_held h
 
-  pub halts_later : {A : Type 0} (form : Form A) (name : List ℕ) (halt : Halt) → HaltsAt {A = A} (outside later) form name halt → HaltsAt (outside held) form name halt
-  halts_later form name halt h = subst (λ (f : List ℕ → Told). HaltsAt (outside f) form name halt) same_held h
+  pub halts_later : {A : Type 0} (form : Form A) (name : List ℕ) (halt : Halt) (before after : Format) → HaltsAt {A = A} (outside later) form name halt before after
+      → HaltsAt (outside held) form name halt before after
+  halts_later form name halt before after h = subst (λ (f : List ℕ → Told). HaltsAt (outside f) form name halt before after) same_held h
 
--- ---- where a check ends
+  pub opens_later : {A : Type 0} (form : Form A) (name : List ℕ) (x : A) (before after : Format) → Opens (outside later) form name before (Ok x) after → Opens (outside held) form name before (Ok x) after
+  opens_later form name x before after h = subst (λ (f : List ℕ → Told). Opens (outside f) form name before (Ok x) after) same_held h
 
-module _ (source : Source) (p s t : List ℕ) (r : Result Verdict Halt) where
-  pub ends_at_package : (halt : Halt) → r ≡ Err halt → HaltsAt source packages p halt → Checks source p s t r
-  ends_at_package halt e h = inl (halt, e, h)
+-- ---- one file after the other
 
-  pub ends_at_spec : (program : Small) → Reads source packages p program → (halt : Halt) → r ≡ Err halt → HaltsAt source (specs_for program) s halt → Checks source p s t r
-  ends_at_spec program x halt e h = inr (program, x, inl (halt, e, h))
+module _ {A O : Type 0} (source : Source) (form : Form A) (name : List ℕ) (Next : A → Course O) {o : Result O Halt} where
+  -- a file that is read, and what comes next
+  pub then_on : (x : A) {before middle after : Format} → Opens source form name before (Ok x) middle → Next x middle o after → Then source form name Next before o after
+  then_on x {before} {middle} {after} (reads, is) more = inr (x, reads, subst (λ (f : Format). Next x f o after) is more)
 
-  pub ends_at_script : (program small : Small) → Reads source packages p program → Reads source (specs_for program) s small → (halt : Halt) → r ≡ Err halt → HaltsAt source (scripts_for program) t halt → Checks source p s t r
-  ends_at_script program small x y halt e h = inr (program, x, inr (small, y, inl (halt, e, h)))
-
-pub ends : (source : Source) (p s t : List ℕ) (program small : Small) (script : SmallScript) (v : Verdict) → Reads source packages p program → Reads source (specs_for program) s small → Reads source (scripts_for program) t script →
-    Compares program small script v → Checks source p s t (Ok v)
-ends source p s t program small script v x y z c = inr (program, x, inr (small, y, inr (script, z, c)))
+  -- a file at which the command halts
+  pub then_halts : (halt : Halt) {before after : Format} → o ≡ Err halt → HaltsAt source form name halt before after → Then source form name Next before o after
+  then_halts halt e h = inl (halt, e, h)

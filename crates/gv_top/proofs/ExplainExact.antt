@@ -1,14 +1,14 @@
 -- `explain` comes to one outcome over files that are told.
-use Rattle.std.proofs.Common.{◌≡◌, ℕ, ◌<◌, ◌≤◌, List, [], length, map, Result, Ok, Err, refl, sym, ap, subst, ◌∙◌, ◌⊎◌, inl, inr}
+use Rattle.std.proofs.Common.{◌≡◌, ℕ, List, [], map, Result, Ok, Err, refl, sym, ap, subst, ◌∙◌, ◌⊎◌, inl, inr}
 use Rattle.std.specs.Prelude.{Vec}
 use Rattle.std.specs.declared.alloc.Global.{Global}
 use Rattle.gv_base.specs.Outside.{Told}
 use Rattle.gv_base.specs.Places.{place_at}
 use Rattle.gv_base.specs.declared.answers.Code.{Code}
-use Rattle.gv_base.specs.declared.answers.Code.TheVariants.{TooLong}
 use Rattle.gv_base.specs.declared.answers.Place.{Place}
 use Rattle.gv_base.specs.declared.answers.Refusal.TheVariants as refusal
-use Rattle.gv_small.specs.Tokens.{start}
+use Rattle.gv_report.specs.declared.format.Format.{Format}
+use Rattle.gv_report.specs.Output.{noted}
 use Rattle.gv_terms.specs.declared.value.Value.{Value}
 use Rattle.gv_atomic.specs.declared.spec.Spec.{Spec}
 use Rattle.gv_spec.specs.Specification.{Specification}
@@ -31,14 +31,14 @@ use Rattle.gv_top.specs.declared.explain.Explanation.TheVariants.{Explained, Not
 use Rattle.gv_top.specs.declared.files.Halt.{Halt}
 use Rattle.gv_top.specs.declared.files.Halt.TheVariants.{NoMemory, CannotRead, Refused}
 use Rattle.gv_top.specs.Explain.{Tells, Explains}
-use Rattle.gv_top.specs.Files.{Form, Source, Asked, IsRefused, HaltsAt, Then, Finishes, IsBlamed, outside, as_told, longest}
+use Rattle.gv_top.specs.Files.{Form, Source, Asked, IsRefused, IsRefusedFor, HaltsAt, Course, Then, Keeps, Finishes, IsBlamed, outside, as_told}
 use Rattle.gv_top.specs.Forms.{written_specs, histories_of, moves_of, IsHistoryOf, AreMovesOf}
 use Rattle.gv_top.specs.Run.{OnlyAbsentFailed}
 use Rattle.gv_top.proofs.AlikeLines.{same_history, same_moves, same_refused_history, same_refused_moves, same_entries, same_moves_of}
 use Rattle.gv_top.proofs.AlikeMeaning.{atomic_same}
 use Rattle.gv_top.proofs.LinesLemmas.{one_account, not_both, one_refusal}
 use Rattle.gv_top.proofs.OutcomeLemmas.{then_refused}
-use Rattle.gv_top.proofs.StageLemmas.{IsExact, placed_exact, Same, stage}
+use Rattle.gv_top.proofs.StageLemmas.{IsExact, placed_exact, Same, SameEnd, kept_same, stage}
 
 -- ---- forms
 
@@ -111,24 +111,23 @@ finishes_same s history moves (Err (Refused name place code)) q h k n = absurd h
 -- ---- what one specification gives, a specification alike gives
 
 pub other_form : {A : Type 0} (source : Source) (form other : Form A) (name : List ℕ) → ((text : List ℕ) (x : A) → form.spells text x → other.spells text x)
-    → ((text : List ℕ) (place : Place) (code : Code) → form.refuses text place code → other.refuses text place code) → {O : Type 0} (o : Result O Halt) (P Q : A → Result O Halt → Type 0) → ((x : A) → P x o → Q x o)
-    → Then source form name P o → Then source other name Q o
-other_form source form other name spells refuses o P Q next (inl (halt, e, h)) = inl (halt, e, halted halt h)
+    → ((text : List ℕ) (place : Place) (code : Code) → form.refuses text place code → other.refuses text place code) → {O : Type 0} (before after : Format) (o : Result O Halt) (P Q : A → Course O)
+    → ((x : A) (middle : Format) → P x middle o after → Q x middle o after) → Then source form name P before o after → Then source other name Q before o after
+other_form source form other name spells refuses before after o P Q next (inl (halt, e, h)) = inl (halt, e, halted halt h)
   where
-    why : (place : Place) (code : Code) → IsRefused source form name place code → IsRefused source other name place code
+    why : (place : Place) (code : Code) → IsRefused source form name place code before after → IsRefused source other name place code before after
     why place code r = record { bytes = r.bytes; given = r.given; why = go r.why }
       where
-        go : ((longest < length r.bytes) × (place ≡ start) × (code ≡ TooLong)) ⊎ ((length r.bytes ≤ longest) × form.refuses r.bytes place code)
-            → ((longest < length r.bytes) × (place ≡ start) × (code ≡ TooLong)) ⊎ ((length r.bytes ≤ longest) × other.refuses r.bytes place code)
+        go : IsRefusedFor form r.bytes place code before after → IsRefusedFor other r.bytes place code before after
         go (inl w) = inl w
-        go (inr w) = inr (w.0, refuses r.bytes place code w.1)
+        go (inr w) = inr (w.0, refuses r.bytes place code w.1, w.2)
 
-    halted : (halt : Halt) → HaltsAt source form name halt → HaltsAt source other name halt
+    halted : (halt : Halt) → HaltsAt source form name halt before after → HaltsAt source other name halt before after
     halted NoMemory h = h
     halted (CannotRead n) h = h
     halted (Refused n place code) h = (h.0, why place code h.1)
-other_form source form other name spells refuses o P Q next (inr (x, reads, more)) =
-    inr (x, record { bytes = reads.bytes; given = reads.given; fits = reads.fits; spelled = spells reads.bytes x reads.spelled }, next x more)
+other_form source form other name spells refuses before after o P Q next (inr (x, reads, more)) =
+    inr (x, record { bytes = reads.bytes; given = reads.given; fits = reads.fits; spelled = spells reads.bytes x reads.spelled }, next x (noted before reads.bytes) more)
 
 module _ (s t : Spec) (alike : AreAlike s t) where
   abbrev Meant : Type 0
@@ -155,37 +154,40 @@ module _ (s t : Spec) (alike : AreAlike s t) where
 
 -- ---- the stages
 
-abbrev pub Last : Spec → List Entry → Vec Move Global → Result Explanation Halt → Type 0
-Last s history moves = Finishes (Tells s history moves.items)
+abbrev pub Last : Spec → List Entry → Vec Move Global → Course Explanation
+Last s history moves = Keeps (Finishes (Tells s history moves.items))
 
-abbrev pub Next : Source → List ℕ → Spec → Vec Entry Global → Result Explanation Halt → Type 0
+abbrev pub Next : Source → List ℕ → Spec → Vec Entry Global → Course Explanation
 Next source m s history = Then source (moves_of s) m (Last s history.items)
 
-abbrev pub First : Source → List ℕ → List ℕ → Spec → Result Explanation Halt → Type 0
+abbrev pub First : Source → List ℕ → List ℕ → Spec → Course Explanation
 First source h m s = Then source (histories_of s) h (Next source m s)
 
-first_by : (source : Source) (h m : List ℕ) (s t : Spec) (o : Result Explanation Halt) → AreAlike s t → First source h m s o → First source h m t o
-first_by source h m s t o alike first =
+first_by : (source : Source) (h m : List ℕ) (s t : Spec) (before after : Format) (o : Result Explanation Halt) → AreAlike s t → First source h m s before o after → First source h m t before o after
+first_by source h m s t before after o alike first =
     other_form source (histories_of s) (histories_of t) h (λ text x k. (same_history s t alike text x.items k.0, same_entries s t alike x.items k.1))
-    (λ text place code k. (k.0, k.1, same_refused_history s t alike text k.0 code k.2)) o (Next source m s) (Next source m t)
-    (λ history next. other_form source (moves_of s) (moves_of t) m (λ text x k. (same_moves s t alike text x.items k.0, same_moves_of s t alike x.items k.1))
-    (λ text place code k. (k.0, k.1, same_refused_moves s t alike text k.0 code k.2)) o (Last s history.items) (Last t history.items) (λ moves k. finishes_by s t alike history.items moves.items o k) next) first
+    (λ text place code k. (k.0, k.1, same_refused_history s t alike text k.0 code k.2)) before after o (Next source m s) (Next source m t)
+    (λ history f next. other_form source (moves_of s) (moves_of t) m (λ text x k. (same_moves s t alike text x.items k.0, same_moves_of s t alike x.items k.1))
+    (λ text place code k. (k.0, k.1, same_refused_moves s t alike text k.0 code k.2)) f after o (Last s history.items) (Last t history.items)
+    (λ moves g k. (finishes_by s t alike history.items moves.items o k.0, k.1)) next) first
 
-module _ (held : List ℕ → Told) (a : Asked) (held_as : a.held ≡ held) (absent : OnlyAbsentFailed a) (o q : Result Explanation Halt) (b : IsBlamed a o) (n : q ≡ Err NoMemory → ⊥) where
-  moves_stage : (m : List ℕ) (s : Spec) (x y : Vec Entry Global) → x.items ≡ y.items → Next (outside held) m s x o → Next (as_told held) m s y q → Same o q
-  moves_stage m s x y same h k =
-      stage (moves_of s) (moves_exact s) held m a held_as absent o q (Last s y.items) (Last s y.items) b (subst (λ (es : List Entry). Then (outside held) (moves_of s) m (Last s es) o) same h) k n
-      (λ text v w c d e f. finishes_same s y.items w.items o q (subst (λ (ms : List Move). Finishes (Tells s y.items ms) o) (one_moves s text v w c d) e) f n)
+module _ (held : List ℕ → Told) (a : Asked) (held_as : a.held ≡ held) (absent : OnlyAbsentFailed a) (o q : Result Explanation Halt) (f g : Format) (b : IsBlamed a o) (n : q ≡ Err NoMemory → ⊥) where
+  moves_stage : (m : List ℕ) (s : Spec) (x y : Vec Entry Global) (before : Format) → x.items ≡ y.items → Next (outside held) m s x before o f → Next (as_told held) m s y before q g → SameEnd o f q g
+  moves_stage m s x y before same h k =
+      stage (moves_of s) (moves_exact s) held m a held_as absent before f g o q (Last s y.items) (Last s y.items) b
+      (subst (λ (es : List Entry). Then (outside held) (moves_of s) m (Last s es) before o f) same h) k n
+      (λ text v w middle c d e l. kept_same o q middle f g e.1 l.1
+      (finishes_same s y.items w.items o q (subst (λ (ms : List Move). Finishes (Tells s y.items ms) o) (one_moves s text v w c d) e.0) l.0 n))
 
-  history_stage : (h m : List ℕ) (s : Spec) → First (outside held) h m s o → First (as_told held) h m s q → Same o q
-  history_stage h m s c d =
-      stage (histories_of s) (histories_exact s) held h a held_as absent o q (Next (outside held) m s) (Next (as_told held) m s) b c d n
-      (λ text x y e f more rest. moves_stage m s x y (one_history s text x y e f) more rest)
+  history_stage : (h m : List ℕ) (s : Spec) (before : Format) → First (outside held) h m s before o f → First (as_told held) h m s before q g → SameEnd o f q g
+  history_stage h m s before c d =
+      stage (histories_of s) (histories_exact s) held h a held_as absent before f g o q (Next (outside held) m s) (Next (as_told held) m s) b c d n
+      (λ text x y middle e l more rest. moves_stage m s x y middle (one_history s text x y e l) more rest)
 
-  pub explains_same : (s h m : List ℕ) → Explains (outside held) s h m o → Explains (as_told held) s h m q → Same o q
-  explains_same s h m c d =
-      stage written_specs specs_exact held s a held_as absent o q (First (outside held) h m) (First (as_told held) h m) b c d n
-      (λ text x y e f more rest. history_stage h m y (first_by (outside held) h m x y o (one_specification text x y e f) more) rest)
+  pub explains_same : (s h m : List ℕ) (before : Format) → Explains (outside held) s h m before o f → Explains (as_told held) s h m before q g → SameEnd o f q g
+  explains_same s h m before c d =
+      stage written_specs specs_exact held s a held_as absent before f g o q (First (outside held) h m) (First (as_told held) h m) b c d n
+      (λ text x y middle e l more rest. history_stage h m y middle (first_by (outside held) h m x y middle f o (one_specification text x y e l) more) rest)
 
 -- a refusal is of one of the three files
 pub no_finish : {O : Type 0} (Outcome : O → Type 0) (name : List ℕ) (place : Place) (code : Code) (o : Result O Halt) → o ≡ Err (Refused name place code) → Finishes Outcome o → ⊥
@@ -194,10 +196,10 @@ no_finish Outcome name place code (Err NoMemory) e c = cc
 no_finish Outcome name place code (Err (CannotRead m)) e c = c
 no_finish Outcome name place code (Err (Refused m p d)) e c = c
 
-pub explain_refused : (source : Source) (s h m name : List ℕ) (place : Place) (code : Code) (o : Result Explanation Halt) → o ≡ Err (Refused name place code) → Explains source s h m o
-    → (name ≡ s) ⊎ ((name ≡ h) ⊎ (name ≡ m))
-explain_refused source s h m name place code o e explains =
-    then_refused source written_specs s (First source h m) o name place code e explains (λ k. inl k)
-    (λ x next. then_refused source (histories_of x) h (Next source m x) o name place code e next (λ k. inr (inl k))
-    (λ history last. then_refused source (moves_of x) m (Last x history.items) o name place code e last (λ k. inr (inr k))
-    (λ moves c. absurd (no_finish (Tells x history.items moves.items) name place code o e c))))
+pub explain_refused : (source : Source) (s h m name : List ℕ) (place : Place) (code : Code) (before after : Format) (o : Result Explanation Halt) → o ≡ Err (Refused name place code)
+    → Explains source s h m before o after → (name ≡ s) ⊎ ((name ≡ h) ⊎ (name ≡ m))
+explain_refused source s h m name place code before after o e explains =
+    then_refused source written_specs s (First source h m) before after o name place code e explains (λ k. inl k)
+    (λ x f next. then_refused source (histories_of x) h (Next source m x) f after o name place code e next (λ k. inr (inl k))
+    (λ history g last. then_refused source (moves_of x) m (Last x history.items) g after o name place code e last (λ k. inr (inr k))
+    (λ moves middle c. absurd (no_finish (Tells x history.items moves.items) name place code o e c.0))))

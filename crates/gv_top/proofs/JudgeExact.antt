@@ -5,6 +5,7 @@ use Rattle.std.specs.declared.alloc.Global.{Global}
 use Rattle.gv_base.specs.Outside.{Told}
 use Rattle.gv_base.specs.declared.answers.Code.{Code}
 use Rattle.gv_base.specs.declared.answers.Place.{Place}
+use Rattle.gv_report.specs.declared.format.Format.{Format}
 use Rattle.gv_terms.specs.declared.value.Value.{Value}
 use Rattle.gv_atomic.specs.declared.spec.Spec.{Spec}
 use Rattle.gv_spec.specs.Entry as plain_entry
@@ -24,7 +25,7 @@ use Rattle.gv_top.specs.declared.files.Halt.{Halt}
 use Rattle.gv_top.specs.declared.files.Halt.TheVariants.{NoMemory, CannotRead, Refused}
 use Rattle.gv_top.specs.declared.judge.Judgement.{Judgement}
 use Rattle.gv_top.specs.declared.judge.Judgement.TheVariants.{Explained, Unexplained, Spent}
-use Rattle.gv_top.specs.Files.{Source, Asked, Then, Finishes, IsBlamed, outside, as_told}
+use Rattle.gv_top.specs.Files.{Source, Asked, Course, Then, Keeps, Finishes, IsBlamed, outside, as_told}
 use Rattle.gv_top.specs.Forms.{written_specs, histories_of}
 use Rattle.gv_top.specs.Judge.{Tells, Judges}
 use Rattle.gv_top.specs.Run.{OnlyAbsentFailed}
@@ -32,7 +33,7 @@ use Rattle.gv_top.proofs.AlikeLines.{same_history, same_refused_history, same_en
 use Rattle.gv_top.proofs.AlikeNodes.{judged_by}
 use Rattle.gv_top.proofs.ExplainExact.{specs_exact, histories_exact, one_history, other_form, no_finish}
 use Rattle.gv_top.proofs.OutcomeLemmas.{then_refused}
-use Rattle.gv_top.proofs.StageLemmas.{Same, stage}
+use Rattle.gv_top.proofs.StageLemmas.{Same, SameEnd, kept_same, stage}
 
 -- ---- moves as the program holds them
 
@@ -105,33 +106,35 @@ finishes_by s t alike history most (Err (Refused name place code)) h = h
 
 -- ---- the stages
 
-abbrev pub Last : ℕ → Spec → Vec Entry Global → Result Judgement Halt → Type 0
-Last most s history = Finishes (Tells s history.items most)
+abbrev pub Last : ℕ → Spec → Vec Entry Global → Course Judgement
+Last most s history = Keeps (Finishes (Tells s history.items most))
 
-abbrev pub First : Source → List ℕ → ℕ → Spec → Result Judgement Halt → Type 0
+abbrev pub First : Source → List ℕ → ℕ → Spec → Course Judgement
 First source h most s = Then source (histories_of s) h (Last most s)
 
-first_by : (source : Source) (h : List ℕ) (most : ℕ) (s t : Spec) (o : Result Judgement Halt) → AreAlike s t → First source h most s o → First source h most t o
-first_by source h most s t o alike first =
+first_by : (source : Source) (h : List ℕ) (most : ℕ) (s t : Spec) (before after : Format) (o : Result Judgement Halt) → AreAlike s t → First source h most s before o after
+    → First source h most t before o after
+first_by source h most s t before after o alike first =
     other_form source (histories_of s) (histories_of t) h (λ text x k. (same_history s t alike text x.items k.0, same_entries s t alike x.items k.1))
-    (λ text place code k. (k.0, k.1, same_refused_history s t alike text k.0 code k.2)) o (Last most s) (Last most t)
-    (λ history k. finishes_by s t alike history.items most o k) first
+    (λ text place code k. (k.0, k.1, same_refused_history s t alike text k.0 code k.2)) before after o (Last most s) (Last most t)
+    (λ history middle k. (finishes_by s t alike history.items most o k.0, k.1)) first
 
-module _ (held : List ℕ → Told) (a : Asked) (held_as : a.held ≡ held) (absent : OnlyAbsentFailed a) (o q : Result Judgement Halt) (b : IsBlamed a o) (n : q ≡ Err NoMemory → ⊥) where
-  history_stage : (h : List ℕ) (most : ℕ) (s : Spec) → First (outside held) h most s o → First (as_told held) h most s q → Same o q
-  history_stage h most s c d =
-      stage (histories_of s) (histories_exact s) held h a held_as absent o q (Last most s) (Last most s) b c d n
-      (λ text x y e f more rest. finishes_same s y.items most o q (subst (λ (es : List Entry). Finishes (Tells s es most) o) (one_history s text x y e f) more) rest n)
+module _ (held : List ℕ → Told) (a : Asked) (held_as : a.held ≡ held) (absent : OnlyAbsentFailed a) (o q : Result Judgement Halt) (f g : Format) (b : IsBlamed a o) (n : q ≡ Err NoMemory → ⊥) where
+  history_stage : (h : List ℕ) (most : ℕ) (s : Spec) (before : Format) → First (outside held) h most s before o f → First (as_told held) h most s before q g → SameEnd o f q g
+  history_stage h most s before c d =
+      stage (histories_of s) (histories_exact s) held h a held_as absent before f g o q (Last most s) (Last most s) b c d n
+      (λ text x y middle e l more rest. kept_same o q middle f g more.1 rest.1
+      (finishes_same s y.items most o q (subst (λ (es : List Entry). Finishes (Tells s es most) o) (one_history s text x y e l) more.0) rest.0 n))
 
-  pub judges_same : (s h : List ℕ) (most : ℕ) → Judges (outside held) s h most o → Judges (as_told held) s h most q → Same o q
-  judges_same s h most c d =
-      stage written_specs specs_exact held s a held_as absent o q (First (outside held) h most) (First (as_told held) h most) b c d n
-      (λ text x y e f more rest. history_stage h most y (first_by (outside held) h most x y o (one_specification text x y e f) more) rest)
+  pub judges_same : (s h : List ℕ) (most : ℕ) (before : Format) → Judges (outside held) s h most before o f → Judges (as_told held) s h most before q g → SameEnd o f q g
+  judges_same s h most before c d =
+      stage written_specs specs_exact held s a held_as absent before f g o q (First (outside held) h most) (First (as_told held) h most) b c d n
+      (λ text x y middle e l more rest. history_stage h most y middle (first_by (outside held) h most x y middle f o (one_specification text x y e l) more) rest)
 
 -- a refusal is of one of the two files
-pub judge_refused : (source : Source) (s h : List ℕ) (most : ℕ) (name : List ℕ) (place : Place) (code : Code) (o : Result Judgement Halt) → o ≡ Err (Refused name place code)
-    → Judges source s h most o → (name ≡ s) ⊎ (name ≡ h)
-judge_refused source s h most name place code o e judges =
-    then_refused source written_specs s (First source h most) o name place code e judges (λ k. inl k)
-    (λ x next. then_refused source (histories_of x) h (Last most x) o name place code e next (λ k. inr k)
-    (λ history c. absurd (no_finish (Tells x history.items most) name place code o e c)))
+pub judge_refused : (source : Source) (s h : List ℕ) (most : ℕ) (name : List ℕ) (place : Place) (code : Code) (before after : Format) (o : Result Judgement Halt)
+    → o ≡ Err (Refused name place code) → Judges source s h most before o after → (name ≡ s) ⊎ (name ≡ h)
+judge_refused source s h most name place code before after o e judges =
+    then_refused source written_specs s (First source h most) before after o name place code e judges (λ k. inl k)
+    (λ x f next. then_refused source (histories_of x) h (Last most x) f after o name place code e next (λ k. inr k)
+    (λ history middle c. absurd (no_finish (Tells x history.items most) name place code o e c.0)))

@@ -18,17 +18,19 @@ use Rattle.gv_judge.proofs.Explained.{few_without_picks}
 use Rattle.gv_lines.specs.Moves.{move_lines}
 use Rattle.gv_report.specs.declared.report.Report.{Report}
 use Rattle.gv_report.specs.declared.report.Report.TheVariants as report
-use Rattle.gv_report.specs.Heard.{Heard, Tells as Tells_of_report, whole, cut, IsWritten}
+use Rattle.gv_report.specs.declared.format.Format.{Format}
+use Rattle.gv_report.specs.Heard.{Heard, IsWritten}
+use Rattle.gv_report.specs.Output.{Shown, Puts, whole, cut, noted, output_of}
 use Rattle.gv_report.specs.Report.{joined, status_of, text_of}
 use Rattle.gv_top.specs.declared.files.Halt.{Halt}
 use Rattle.gv_top.specs.declared.judge.Judgement.{Judgement}
 use Rattle.gv_top.specs.declared.judge.Judgement.TheVariants.{Explained, Unexplained, Spent}
-use Rattle.gv_top.specs.Commands.{Command, check, explain, replay, judge, Asks, Comes, reported}
-use Rattle.gv_top.specs.Files.{Asked, Source, Finishes, Reads, outside}
+use Rattle.gv_top.specs.Commands.{Command, check, explain, replay, judge, Asks, Comes, reported, format_for}
+use Rattle.gv_top.specs.Files.{Asked, Source, Finishes, Reads, outside, noted_all}
 use Rattle.gv_top.specs.Forms.{written_specs, histories_of}
 use Rattle.gv_top.specs.Judge.{Tells, IsFirstFull, AreNoneFull, AreSpent, Judges, report_of}
 use Rattle.gv_top.specs.Promise.{JudgedPromise}
-use Rattle.gv_top.specs.Run.{Gives, usage, done, Deserves}
+use Rattle.gv_top.specs.Run.{Gives, usage, done}
 use Rattle.gv_top.proofs.JudgeExact as exact
 use Rattle.gv_top.proofs.OutcomeLemmas.{check_never_finds, explain_never_finds, replay_never_finds, found_of, IsJudged, judge_came, then_read}
 
@@ -49,40 +51,43 @@ begins_otherwise s (move.Other entry.Boot ∷ ms) rest e = let h : 98 ≡ 97 = n
 -- ---- where a judgement came of it
 
 -- the two values that were read, and what is told of them
-record Came (source : Source) (s h : List ℕ) (most : ℕ) (j : Judgement) : Type 0 where
+record Came (source : Source) (s h : List ℕ) (most : ℕ) (before after : Format) (j : Judgement) : Type 0 where
   spec : Spec
   is_spec : Reads source written_specs s spec
   history : Vec Entry Global
   is_history : Reads source (histories_of spec) h history
+  format_is : after ≡ noted_all before (is_spec.bytes ∷ is_history.bytes ∷ [])
   tells : Tells spec history.items most j
 
-judgement_is : (source : Source) (s h : List ℕ) (most : ℕ) (j : Judgement) (o : Result Judgement Halt) → o ≡ Ok j → Judges source s h most o → Came source s h most j
-judgement_is source s h most j o e judges =
-    then_read source written_specs s (exact.First source h most) o j e judges (λ spec spec_reads next.
-    then_read source (histories_of spec) h (exact.Last most spec) o j e next (λ history history_reads last.
+judgement_is : (source : Source) (s h : List ℕ) (most : ℕ) (before after : Format) (j : Judgement) (o : Result Judgement Halt) → o ≡ Ok j → Judges source s h most before o after
+    → Came source s h most before after j
+judgement_is source s h most before after j o e judges =
+    then_read source written_specs s (exact.First source h most) before after o j e judges (λ spec spec_reads next.
+    then_read source (histories_of spec) h (exact.Last most spec) (noted before spec_reads.bytes) after o j e next (λ history history_reads last.
     record {
       spec = spec;
       is_spec = spec_reads;
       history = history;
       is_history = history_reads;
-      tells = subst (λ (r : Result Judgement Halt). Finishes (Tells spec history.items most) r) e last;
+      format_is = last.1;
+      tells = subst (λ (r : Result Judgement Halt). Finishes (Tells spec history.items most) r) e last.0;
     }))
 
-pub moves_text : (words : List (List ℕ)) (source : Source) (lines : List (List ℕ)) (rest : List ℕ) → Gives source words (report.Moves lines)
+pub moves_text : (words : List (List ℕ)) (source : Source) (lines : List (List ℕ)) (f : Format) (rest : List ℕ) → Gives source words (report.Moves lines) f
     → text_of (report.Moves lines) ≡ text_of report.AcceptedWithoutCrash ++ rest → ⊥
-moves_text words source lines rest given text = by_words (report.Moves lines) refl given
+moves_text words source lines f rest given text = by_words (report.Moves lines) f refl given
   where
-    by_command : (command : Command) (r : Report) → r ≡ report.Moves lines → Comes source command r → ⊥
-    by_command (check p s t) r e (o, checks, is) = check_never_finds o lines (sym e ∙ is)
-    by_command (explain s h m) r e (o, explains, is) = explain_never_finds o lines (sym e ∙ is)
-    by_command (replay p s c) r e (o, replays, is) = replay_never_finds o lines (sym e ∙ is)
-    by_command (judge s h m) r e (o, judges, is) =
-        let came = judgement_is source s h m (Explained lines) o (found_of o lines (sym e ∙ is)) judges in
+    by_command : (command : Command) (before after : Format) (r : Report) → r ≡ report.Moves lines → Comes source command before r after → ⊥
+    by_command (check p s t) before after r e (o, checks, is) = check_never_finds o lines (sym e ∙ is)
+    by_command (explain s h m) before after r e (o, explains, is) = explain_never_finds o lines (sym e ∙ is)
+    by_command (replay p s c) before after r e (o, replays, is) = replay_never_finds o lines (sym e ∙ is)
+    by_command (judge s h m) before after r e (o, judges, is) =
+        let came = judgement_is source s h m before after (Explained lines) o (found_of o lines (sym e ∙ is)) judges in
         begins_otherwise came.spec came.tells.moves rest (ap joined (sym came.tells.lines_are) ∙ text)
 
-    by_words : (r : Report) → r ≡ report.Moves lines → Gives source words r → ⊥
-    by_words r e (usage h) = cc
-    by_words r e (done command asks comes) = by_command command r e comes
+    by_words : (r : Report) (f : Format) → r ≡ report.Moves lines → Gives source words r f → ⊥
+    by_words r f e (usage h) = cc
+    by_words r f e (done command asks comes) = by_command command (format_for words) f r e comes
 
 -- ---- the promise
 
@@ -120,15 +125,17 @@ module _ (s : Spec) (history : List Entry) (most : ℕ) where
       let over = more.count in
       omega (arith, few, over, much)
 
-promise_of : (held : List ℕ → Told) (heard : Heard) (s h : List ℕ) (most : ℕ) (j : Judgement) → IsWritten heard (text_of (report_of j)) → Came (outside held) s h most j
-    → JudgedPromise held heard (status_of (report_of j)) s h most
-promise_of held heard s h most j w came = record {
+promise_of : (words : List (List ℕ)) (held : List ℕ → Told) (heard : Heard) (s h : List ℕ) (most : ℕ) (f : Format) (j : Judgement) → IsWritten heard (output_of f (report_of j))
+    → Came (outside held) s h most (format_for words) f j → JudgedPromise words held heard (status_of (report_of j)) s h most
+promise_of words held heard s h most f j w came = record {
   atomic = came.spec;
   is_spec = came.is_spec;
   history = came.history;
   is_history = came.is_history;
   judgement = j;
   tells = came.tells;
+  format = f;
+  format_is = came.format_is;
   written = w;
   ended = refl;
   yes = yes_exactly came.spec came.history.items most j came.tells;
@@ -142,15 +149,16 @@ cut_never (inl e) = omega (arith, e)
 cut_never (inr (inl e)) = omega (arith, e)
 cut_never (inr (inr e)) = omega (arith, e)
 
-pub judged : (words : List (List ℕ)) (a : Asked) (heard : Heard) (r : Report) (status : ℕ) → Deserves words a r → Tells_of_report r heard status
-    → ((command : Command) → Asks words command → Comes (outside a.held) command r)
-    → (s h : List ℕ) (most : ℕ) → Asks words (judge s h most) → IsJudged status → JudgedPromise a.held heard status s h most
-judged words a heard r status d (cut o w) comes s h most asks ends = absurd (cut_never ends)
-judged words a heard r status d (whole w f) comes s h most asks ends = go (comes (judge s h most) asks) ends
+pub judged : (words : List (List ℕ)) (a : Asked) (heard : Heard) (z : Shown) (status : ℕ) → Puts z heard status
+    → ((command : Command) → Asks words command → Comes (outside a.held) command (format_for words) z.report z.format)
+    → (s h : List ℕ) (most : ℕ) → Asks words (judge s h most) → IsJudged status → JudgedPromise words a.held heard status s h most
+judged words a heard z status (cut o w) comes s h most asks ends = absurd (cut_never ends)
+judged words a heard z status (whole w f) comes s h most asks ends = go (comes (judge s h most) asks) ends
   where
-    go : Comes (outside a.held) (judge s h most) r → IsJudged (status_of r) → JudgedPromise a.held heard (status_of r) s h most
+    go : Comes (outside a.held) (judge s h most) (format_for words) z.report z.format → IsJudged (status_of z.report) → JudgedPromise words a.held heard (status_of z.report) s h most
     go (o, judges, is) ends =
         judge_came o (subst (λ (x : Report). IsJudged (status_of x)) is ends) (λ j o_is.
-        let r_is : r ≡ report_of j = is ∙ ap (reported report_of) o_is in
-        subst (λ (y : Report). JudgedPromise a.held heard (status_of y) s h most) (sym r_is)
-        (promise_of a.held heard s h most j (subst (λ (y : Report). IsWritten heard (text_of y)) r_is w) (judgement_is (outside a.held) s h most j o o_is judges)))
+        let r_is : z.report ≡ report_of j = is ∙ ap (reported report_of) o_is in
+        subst (λ (y : Report). JudgedPromise words a.held heard (status_of y) s h most) (sym r_is)
+        (promise_of words a.held heard s h most z.format j (subst (λ (y : Report). IsWritten heard (output_of z.format y)) r_is w)
+        (judgement_is (outside a.held) s h most (format_for words) z.format j o o_is judges)))

@@ -4,6 +4,8 @@ use Rattle.gv_base.specs.declared.answers.Code.{Code}
 use Rattle.gv_base.specs.declared.answers.Place.{Place}
 use Rattle.gv_report.specs.declared.report.Report.{Report}
 use Rattle.gv_report.specs.declared.report.Report.TheVariants as report
+use Rattle.gv_report.specs.declared.format.Format.{Format}
+use Rattle.gv_report.specs.Output.{noted}
 use Rattle.gv_report.specs.Report.{status_of}
 use Rattle.gv_top.specs.declared.check.Verdict.{Verdict}
 use Rattle.gv_top.specs.declared.check.Verdict.TheVariants.{Unjustified, AcceptedWithoutCrash}
@@ -19,7 +21,7 @@ use Rattle.gv_top.specs.declared.judge.Judgement.{Judgement}
 use Rattle.gv_top.specs.declared.judge.Judgement.TheVariants as judgement
 use Rattle.gv_top.specs.Judge.{report_of as judge_report}
 use Rattle.gv_top.specs.Commands.{reported}
-use Rattle.gv_top.specs.Files.{Asked, Source, Form, Reads, HaltsAt, Then, IsBlamed, NoneFailed}
+use Rattle.gv_top.specs.Files.{Asked, Source, Form, Reads, HaltsAt, Course, Then, IsBlamed, NoneFailed}
 use Rattle.gv_top.specs.Run.{IsBlamedIn}
 
 -- ---- the reports of a command's own: neither of a halt, nor of words that are no command
@@ -235,16 +237,18 @@ judge_came (Err (Refused n q d)) l next = absurd (never_judged 4 (omega arith) (
 
 -- ---- one file after the other
 
-module _ {A O R : Type 0} (source : Source) (form : Form A) (file : List ℕ) (Next : A → Result O Halt → Type 0) (o : Result O Halt) where
+module _ {A O R : Type 0} (source : Source) (form : Form A) (file : List ℕ) (Next : A → Course O) (before after : Format) (o : Result O Halt) where
   -- where there is an outcome of its own, the file is read
-  pub then_read : (v : O) → o ≡ Ok v → Then source form file Next o → ((x : A) → Reads source form file x → Next x o → R) → R
+  pub then_read : (v : O) → o ≡ Ok v → Then source form file Next before o after
+      → ((x : A) (reads : Reads source form file x) → Next x (noted before reads.bytes) o after → R) → R
   then_read v e (inl (halt, f, h)) next = absurd cc
   then_read v e (inr (x, reads, more)) next = next x reads more
 
   -- a refusal is of this file, or of a later one
-  pub then_refused : (name : List ℕ) (place : Place) (code : Code) → o ≡ Err (Refused name place code) → Then source form file Next o → (name ≡ file → R) → ((x : A) → Next x o → R) → R
+  pub then_refused : (name : List ℕ) (place : Place) (code : Code) → o ≡ Err (Refused name place code) → Then source form file Next before o after
+      → (name ≡ file → R) → ((x : A) (middle : Format) → Next x middle o after → R) → R
   then_refused name place code e (inl (halt, f, h)) here later =
       let same : halt ≡ Refused name place code = cc in
-      let there : HaltsAt source form file (Refused name place code) = subst (λ (x : Halt). HaltsAt source form file x) same h in
+      let there : HaltsAt source form file (Refused name place code) before after = subst (λ (x : Halt). HaltsAt source form file x before after) same h in
       here there.0
-  then_refused name place code e (inr (x, reads, more)) here later = later x more
+  then_refused name place code e (inr (x, reads, more)) here later = later x (noted before reads.bytes) more

@@ -23,12 +23,13 @@ use Rattle.gv_interfaces.specs.declared.difference.Difference.TheVariants.{InSpe
 use Rattle.gv_interfaces.specs.Interfaces.{SameOperations}
 use Rattle.gv_interfaces.specs.Places.{IsFirstDifference}
 use Rattle.gv_interfaces.proofs.Decided.{one_difference, none_where_same}
+use Rattle.gv_report.specs.declared.format.Format.{Format}
 use Rattle.gv_report.specs.declared.ran.Ran.{Ran}
 use Rattle.gv_top.specs.declared.files.Halt.{Halt}
 use Rattle.gv_top.specs.declared.files.Halt.TheVariants.{NoMemory, CannotRead, Refused}
 use Rattle.gv_top.specs.declared.replay_forms.WrittenPackage.{WrittenPackage}
 use Rattle.gv_top.specs.declared.replay_forms.WrittenSpec.{WrittenSpec}
-use Rattle.gv_top.specs.Files.{Source, Asked, Then, IsBlamed, outside, as_told}
+use Rattle.gv_top.specs.Files.{Source, Asked, Course, Then, Keeps, IsBlamed, outside, as_told}
 use Rattle.gv_top.specs.Replay.{StandsIn, HaltsBetween, IfSame, IsReplayed, Plays, Replays}
 use Rattle.gv_top.specs.ReplayForms.{IsWrittenPackage, written_packages, IsWrittenSpec, kept_specs, IsScheduleOf, schedules_of}
 use Rattle.gv_top.specs.Run.{OnlyAbsentFailed}
@@ -38,7 +39,7 @@ use Rattle.gv_top.proofs.LawLemmas.{one_package}
 use Rattle.gv_top.proofs.LinesLemmas.{one_account, not_both, one_refusal}
 use Rattle.gv_top.proofs.OutcomeLemmas.{then_refused}
 use Rattle.gv_top.proofs.PackageForm.{packages_exact}
-use Rattle.gv_top.proofs.StageLemmas.{IsExact, placed_exact, Same, stage, stage_one}
+use Rattle.gv_top.proofs.StageLemmas.{IsExact, placed_exact, Same, SameEnd, kept_same, stage, stage_one}
 
 -- ---- forms
 
@@ -151,53 +152,54 @@ module _ (p s : List ℕ) (kept : WrittenPackage) (text : List ℕ) (x y : Writt
 
 -- ---- the stages
 
-abbrev pub Last : Small → Spec → List ℕ → Schedule → Result Ran Halt → Type 0
-Last program s c schedule = Plays program s c schedule.events
+abbrev pub Last : Small → Spec → List ℕ → Schedule → Course Ran
+Last program s c schedule = Keeps (Plays program s c schedule.events)
 
-abbrev pub Next : Source → List ℕ → Small → Spec → Result Ran Halt → Type 0
+abbrev pub Next : Source → List ℕ → Small → Spec → Course Ran
 Next source c program s = Then source (schedules_of s) c (Last program s c)
 
-abbrev pub Middle : Source → List ℕ → List ℕ → List ℕ → WrittenPackage → WrittenSpec → Result Ran Halt → Type 0
+abbrev pub Middle : Source → List ℕ → List ℕ → List ℕ → WrittenPackage → WrittenSpec → Course Ran
 Middle source p s c kept spec = IfSame p s kept spec (Next source c kept.small spec.spec)
 
-abbrev pub First : Source → List ℕ → List ℕ → List ℕ → WrittenPackage → Result Ran Halt → Type 0
+abbrev pub First : Source → List ℕ → List ℕ → List ℕ → WrittenPackage → Course Ran
 First source p s c kept = Then source kept_specs s (Middle source p s c kept)
 
-next_by : (source : Source) (c : List ℕ) (program : Small) (s t : Spec) (o : Result Ran Halt) → AreAlike s t → Next source c program s o → Next source c program t o
-next_by source c program s t o alike next =
+next_by : (source : Source) (c : List ℕ) (program : Small) (s t : Spec) (before after : Format) (o : Result Ran Halt) → AreAlike s t → Next source c program s before o after
+    → Next source c program t before o after
+next_by source c program s t before after o alike next =
     other_form source (schedules_of s) (schedules_of t) c (λ text x k. (same_schedule s t alike text x k.0, same_events s t alike x.events k.1))
-    (λ text place code k. (k.0, k.1, same_refused_schedule s t alike text k.0 code k.2)) o (Last program s c) (Last program t c)
-    (λ schedule k. plays_by s t alike program c schedule.events o k) next
+    (λ text place code k. (k.0, k.1, same_refused_schedule s t alike text k.0 code k.2)) before after o (Last program s c) (Last program t c)
+    (λ schedule middle k. (plays_by s t alike program c schedule.events o k.0, k.1)) next
 
-module _ (held : List ℕ → Told) (a : Asked) (held_as : a.held ≡ held) (absent : OnlyAbsentFailed a) (o q : Result Ran Halt) (b : IsBlamed a o) (n : q ≡ Err NoMemory → ⊥) where
-  schedule_stage : (c : List ℕ) (program : Small) (s : Spec) → Next (outside held) c program s o → Next (as_told held) c program s q → Same o q
-  schedule_stage c program s h k =
-      stage_one (schedules_of s) (schedules_exact s) held c a held_as absent (one_schedule s) o q (Last program s c) (Last program s c) b h k n
-      (λ schedule e f. plays_same program s c schedule.events o q e f n)
+module _ (held : List ℕ → Told) (a : Asked) (held_as : a.held ≡ held) (absent : OnlyAbsentFailed a) (o q : Result Ran Halt) (f g : Format) (b : IsBlamed a o) (n : q ≡ Err NoMemory → ⊥) where
+  schedule_stage : (c : List ℕ) (program : Small) (s : Spec) (before : Format) → Next (outside held) c program s before o f → Next (as_told held) c program s before q g → SameEnd o f q g
+  schedule_stage c program s before h k =
+      stage_one (schedules_of s) (schedules_exact s) held c a held_as absent (one_schedule s) before f g o q (Last program s c) (Last program s c) b h k n
+      (λ schedule middle e l. kept_same o q middle f g e.1 l.1 (plays_same program s c schedule.events o q e.0 l.0 n))
 
-  middle_stage : (p s c : List ℕ) (kept : WrittenPackage) (text : List ℕ) (x y : WrittenSpec) → IsWrittenSpec text x → IsWrittenSpec text y
-      → Middle (outside held) p s c kept x o → Middle (as_told held) p s c kept y q → Same o q
-  middle_stage p s c kept text x y h k (inl (halt, e, f)) (inl (other, g, l)) =
-      elim (halts_same p s kept text x y h k halt other f l (λ z. n (g ∙ err_same other NoMemory z))) [
-        | inl same ↦ inl (e ∙ err_same halt other same ∙ sym g)
+  middle_stage : (p s c : List ℕ) (kept : WrittenPackage) (text : List ℕ) (x y : WrittenSpec) (before : Format) → IsWrittenSpec text x → IsWrittenSpec text y
+      → Middle (outside held) p s c kept x before o f → Middle (as_told held) p s c kept y before q g → SameEnd o f q g
+  middle_stage p s c kept text x y before h k (inl (halt, e, d, z)) (inl (other, l, m, w)) =
+      elim (halts_same p s kept text x y h k halt other d m (λ v. n (l ∙ err_same other NoMemory v))) [
+        | inl same ↦ inl (e ∙ err_same halt other same ∙ sym l, z ∙ sym w)
         | inr same ↦ inr (e ∙ err_same halt NoMemory same)
       ]
-  middle_stage p s c kept text x y h k (inl (halt, e, f)) (inr (same, rest)) =
-      inr (e ∙ err_same halt NoMemory (went_on p s kept text x y h k halt f same))
-  middle_stage p s c kept text x y h k (inr (same, next)) (inl (other, g, l)) =
-      absurd (n (g ∙ err_same other NoMemory (goes_on p s kept text x y h k other same l)))
-  middle_stage p s c kept text x y h k (inr (same, next)) (inr (also, rest)) =
-      schedule_stage c kept.small y.spec (next_by (outside held) c kept.small x.spec y.spec o (specs_alike p s kept text x y h k) next) rest
+  middle_stage p s c kept text x y before h k (inl (halt, e, d, z)) (inr (same, rest)) =
+      inr (e ∙ err_same halt NoMemory (went_on p s kept text x y h k halt d same))
+  middle_stage p s c kept text x y before h k (inr (same, next)) (inl (other, l, m, w)) =
+      absurd (n (l ∙ err_same other NoMemory (goes_on p s kept text x y h k other same m)))
+  middle_stage p s c kept text x y before h k (inr (same, next)) (inr (also, rest)) =
+      schedule_stage c kept.small y.spec before (next_by (outside held) c kept.small x.spec y.spec before f o (specs_alike p s kept text x y h k) next) rest
 
-  spec_stage : (p s c : List ℕ) (kept : WrittenPackage) → First (outside held) p s c kept o → First (as_told held) p s c kept q → Same o q
-  spec_stage p s c kept h k =
-      stage kept_specs kept_specs_exact held s a held_as absent o q (Middle (outside held) p s c kept) (Middle (as_told held) p s c kept) b h k n
-      (λ text x y e f more rest. middle_stage p s c kept text x y e f more rest)
+  spec_stage : (p s c : List ℕ) (kept : WrittenPackage) (before : Format) → First (outside held) p s c kept before o f → First (as_told held) p s c kept before q g → SameEnd o f q g
+  spec_stage p s c kept before h k =
+      stage kept_specs kept_specs_exact held s a held_as absent before f g o q (Middle (outside held) p s c kept) (Middle (as_told held) p s c kept) b h k n
+      (λ text x y middle e l more rest. middle_stage p s c kept text x y middle e l more rest)
 
-  pub replays_same : (p s c : List ℕ) → Replays (outside held) p s c o → Replays (as_told held) p s c q → Same o q
-  replays_same p s c h k =
-      stage_one written_packages written_packages_exact held p a held_as absent one_written_package o q (First (outside held) p s c) (First (as_told held) p s c) b h k n
-      (λ kept e f. spec_stage p s c kept e f)
+  pub replays_same : (p s c : List ℕ) (before : Format) → Replays (outside held) p s c before o f → Replays (as_told held) p s c before q g → SameEnd o f q g
+  replays_same p s c before h k =
+      stage_one written_packages written_packages_exact held p a held_as absent one_written_package before f g o q (First (outside held) p s c) (First (as_told held) p s c) b h k n
+      (λ kept middle e l. spec_stage p s c kept middle e l)
 
 -- ---- a refusal is of one of the three files
 
@@ -223,18 +225,18 @@ between p s c kept spec name place code (Refused m at d) e h =
       | inr here ↦ inr (inl (sym same ∙ here))
     ]
 
-middle_refused : (source : Source) (p s c : List ℕ) (kept : WrittenPackage) (spec : WrittenSpec) (name : List ℕ) (place : Place) (code : Code) (o : Result Ran Halt)
-    → o ≡ Err (Refused name place code) → Middle source p s c kept spec o → (name ≡ p) ⊎ ((name ≡ s) ⊎ (name ≡ c))
-middle_refused source p s c kept spec name place code o e (inl (halt, f, h)) =
+middle_refused : (source : Source) (p s c : List ℕ) (kept : WrittenPackage) (spec : WrittenSpec) (name : List ℕ) (place : Place) (code : Code) (before after : Format) (o : Result Ran Halt)
+    → o ≡ Err (Refused name place code) → Middle source p s c kept spec before o after → (name ≡ p) ⊎ ((name ≡ s) ⊎ (name ≡ c))
+middle_refused source p s c kept spec name place code before after o e (inl (halt, f, h, z)) =
     let same : halt ≡ Refused name place code = cc in
     between p s c kept spec name place code halt same h
-middle_refused source p s c kept spec name place code o e (inr (same, next)) =
-    then_refused source (schedules_of spec.spec) c (Last kept.small spec.spec c) o name place code e next (λ k. inr (inr k))
-    (λ schedule h. inr (inr (plays_refused kept.small spec.spec c name schedule.events place code o e h)))
+middle_refused source p s c kept spec name place code before after o e (inr (same, next)) =
+    then_refused source (schedules_of spec.spec) c (Last kept.small spec.spec c) before after o name place code e next (λ k. inr (inr k))
+    (λ schedule middle h. inr (inr (plays_refused kept.small spec.spec c name schedule.events place code o e h.0)))
 
-pub replay_refused : (source : Source) (p s c name : List ℕ) (place : Place) (code : Code) (o : Result Ran Halt) → o ≡ Err (Refused name place code) → Replays source p s c o
-    → (name ≡ p) ⊎ ((name ≡ s) ⊎ (name ≡ c))
-replay_refused source p s c name place code o e replays =
-    then_refused source written_packages p (First source p s c) o name place code e replays (λ k. inl k)
-    (λ kept next. then_refused source kept_specs s (Middle source p s c kept) o name place code e next (λ k. inr (inl k))
-    (λ spec middle. middle_refused source p s c kept spec name place code o e middle))
+pub replay_refused : (source : Source) (p s c name : List ℕ) (place : Place) (code : Code) (before after : Format) (o : Result Ran Halt) → o ≡ Err (Refused name place code)
+    → Replays source p s c before o after → (name ≡ p) ⊎ ((name ≡ s) ⊎ (name ≡ c))
+replay_refused source p s c name place code before after o e replays =
+    then_refused source written_packages p (First source p s c) before after o name place code e replays (λ k. inl k)
+    (λ kept f next. then_refused source kept_specs s (Middle source p s c kept) f after o name place code e next (λ k. inr (inl k))
+    (λ spec g middle. middle_refused source p s c kept spec name place code g after o e middle))

@@ -29,19 +29,21 @@ use Rattle.gv_interfaces.specs.Interfaces.{SameOperations}
 use Rattle.gv_report.specs.declared.ran.Ran.{Ran}
 use Rattle.gv_report.specs.declared.report.Report.{Report}
 use Rattle.gv_report.specs.declared.report.Report.TheVariants as report
-use Rattle.gv_report.specs.Heard.{Heard, Tells, whole, cut, IsWritten}
+use Rattle.gv_report.specs.declared.format.Format.{Format}
+use Rattle.gv_report.specs.Heard.{Heard, IsWritten}
+use Rattle.gv_report.specs.Output.{Shown, Puts, whole, cut, noted, output_of}
 use Rattle.gv_report.specs.Ran.{last_line, status_after}
 use Rattle.gv_report.specs.Report.{joined, status_of, text_of}
 use Rattle.gv_top.specs.declared.files.Halt.{Halt}
 use Rattle.gv_top.specs.declared.replay_forms.WrittenPackage.{WrittenPackage}
 use Rattle.gv_top.specs.declared.replay_forms.WrittenSpec.{WrittenSpec}
-use Rattle.gv_top.specs.Commands.{Command, check, explain, replay, judge, Asks, Comes, reported}
-use Rattle.gv_top.specs.Files.{Asked, Source, Reads, outside}
+use Rattle.gv_top.specs.Commands.{Command, check, explain, replay, judge, Asks, Comes, reported, format_for}
+use Rattle.gv_top.specs.Files.{Asked, Source, Reads, outside, noted_all}
 use Rattle.gv_top.specs.Forms.{packages, written_specs}
 use Rattle.gv_top.specs.Promise.{ReplayedPromise}
 use Rattle.gv_top.specs.Replay.{IsReplayed, Plays, Replays, report_of as replay_report}
 use Rattle.gv_top.specs.ReplayForms.{written_packages, kept_specs, schedules_of}
-use Rattle.gv_top.specs.Run.{Gives, usage, done, Deserves}
+use Rattle.gv_top.specs.Run.{Gives, usage, done}
 use Rattle.gv_top.proofs.OutcomeLemmas.{check_never_ran, explain_never_ran, judge_never_ran, ran_of, replay_came, then_read}
 use Rattle.gv_top.proofs.ReplayExact as exact
 
@@ -130,27 +132,28 @@ begins_otherwise s (entry.Boot ∷ es) u rest e = let h : 98 ≡ 97 = first_of _
 -- ---- where a run came of it
 
 -- the three values that were read, and the run
-pub record Came (source : Source) (p s c : List ℕ) (ran : Ran) : Type 0 where
+pub record Came (source : Source) (p s c : List ℕ) (before after : Format) (ran : Ran) : Type 0 where
   pub kept : WrittenPackage
   pub is_package : Reads source written_packages p kept
   pub spec : WrittenSpec
   pub is_spec : Reads source kept_specs s spec
   pub schedule : Schedule
   pub is_schedule : Reads source (schedules_of spec.spec) c schedule
+  pub format_is : after ≡ noted_all before (is_package.bytes ∷ is_spec.bytes ∷ is_schedule.bytes ∷ [])
   pub same : SameOperations kept.small spec.spec
   pub replayed : IsReplayed kept.small spec.spec schedule.events ran
 
-plays_is : (source : Source) (p s c : List ℕ) (ran : Ran) (o : Result Ran Halt) → o ≡ Ok ran → Replays source p s c o → Came source p s c ran
-plays_is source p s c ran o e replays =
-    then_read source written_packages p (exact.First source p s c) o ran e replays (λ kept package_reads first.
-    then_read source kept_specs s (exact.Middle source p s c kept) o ran e first (λ spec spec_reads middle.
+plays_is : (source : Source) (p s c : List ℕ) (before after : Format) (ran : Ran) (o : Result Ran Halt) → o ≡ Ok ran → Replays source p s c before o after → Came source p s c before after ran
+plays_is source p s c before after ran o e replays =
+    then_read source written_packages p (exact.First source p s c) before after o ran e replays (λ kept package_reads first.
+    then_read source kept_specs s (exact.Middle source p s c kept) (noted before package_reads.bytes) after o ran e first (λ spec spec_reads middle.
     went_on kept package_reads spec spec_reads middle))
   where
-    went_on : (kept : WrittenPackage) → Reads source written_packages p kept → (spec : WrittenSpec) → Reads source kept_specs s spec
-        → exact.Middle source p s c kept spec o → Came source p s c ran
-    went_on kept package_reads spec spec_reads (inl (halt, f, h)) = absurd cc
+    went_on : (kept : WrittenPackage) (package_reads : Reads source written_packages p kept) (spec : WrittenSpec) (spec_reads : Reads source kept_specs s spec)
+        → exact.Middle source p s c kept spec (noted (noted before package_reads.bytes) spec_reads.bytes) o after → Came source p s c before after ran
+    went_on kept package_reads spec spec_reads (inl (halt, f, h, k)) = absurd cc
     went_on kept package_reads spec spec_reads (inr (same, next)) =
-        then_read source (schedules_of spec.spec) c (exact.Last kept.small spec.spec c) o ran e next (λ schedule schedule_reads plays.
+        then_read source (schedules_of spec.spec) c (exact.Last kept.small spec.spec c) (noted (noted before package_reads.bytes) spec_reads.bytes) after o ran e next (λ schedule schedule_reads plays.
         record {
           kept = kept;
           is_package = package_reads;
@@ -158,26 +161,27 @@ plays_is source p s c ran o e replays =
           is_spec = spec_reads;
           schedule = schedule;
           is_schedule = schedule_reads;
+          format_is = plays.1;
           same = same;
-          replayed = subst (λ (x : Result Ran Halt). Plays kept.small spec.spec c schedule.events x) e plays;
+          replayed = subst (λ (x : Result Ran Halt). Plays kept.small spec.spec c schedule.events x) e plays.0;
         })
 
-pub ran_text : (words : List (List ℕ)) (source : Source) (ran : Ran) (rest : List ℕ) → Gives source words (report.Ran ran)
+pub ran_text : (words : List (List ℕ)) (source : Source) (ran : Ran) (f : Format) (rest : List ℕ) → Gives source words (report.Ran ran) f
     → text_of (report.Ran ran) ≡ text_of report.AcceptedWithoutCrash ++ rest → ⊥
-ran_text words source ran rest given text = by_words (report.Ran ran) refl given
+ran_text words source ran f rest given text = by_words (report.Ran ran) f refl given
   where
-    by_command : (command : Command) (r : Report) → r ≡ report.Ran ran → Comes source command r → ⊥
-    by_command (check p s t) r e (o, checks, is) = check_never_ran o ran (sym e ∙ is)
-    by_command (explain s h m) r e (o, explains, is) = explain_never_ran o ran (sym e ∙ is)
-    by_command (replay p s c) r e (o, replays, is) =
-        let came = plays_is source p s c ran o (ran_of o ran (sym e ∙ is)) replays in
+    by_command : (command : Command) (before after : Format) (r : Report) → r ≡ report.Ran ran → Comes source command before r after → ⊥
+    by_command (check p s t) before after r e (o, checks, is) = check_never_ran o ran (sym e ∙ is)
+    by_command (explain s h m) before after r e (o, explains, is) = explain_never_ran o ran (sym e ∙ is)
+    by_command (replay p s c) before after r e (o, replays, is) =
+        let came = plays_is source p s c before after ran o (ran_of o ran (sym e ∙ is)) replays in
         begins_otherwise came.spec.spec came.replayed.history ran.undefined rest
         (ap (λ (ls : List (List ℕ)). joined (ls ++ last_line ran.undefined ∷ [])) (sym came.replayed.lines_are) ∙ text)
-    by_command (judge s h m) r e (o, judges, is) = judge_never_ran o ran (sym e ∙ is)
+    by_command (judge s h m) before after r e (o, judges, is) = judge_never_ran o ran (sym e ∙ is)
 
-    by_words : (r : Report) → r ≡ report.Ran ran → Gives source words r → ⊥
-    by_words r e (usage h) = cc
-    by_words r e (done command asks comes) = by_command command r e comes
+    by_words : (r : Report) (f : Format) → r ≡ report.Ran ran → Gives source words r f → ⊥
+    by_words r f e (usage h) = cc
+    by_words r f e (done command asks comes) = by_command command (format_for words) f r e comes
 
 -- ---- the promise
 
@@ -191,9 +195,10 @@ kept_package source p kept r = record { bytes = r.bytes; given = r.given; fits =
 kept_spec : (source : Source) (s : List ℕ) (spec : WrittenSpec) → Reads source kept_specs s spec → Reads source written_specs s spec.spec
 kept_spec source s spec r = record { bytes = r.bytes; given = r.given; fits = r.fits; spelled = r.spelled.0 }
 
-promise_of : (held : List ℕ → Told) (heard : Heard) (p s c : List ℕ) (ran : Ran) → IsWritten heard (text_of (report.Ran ran)) → Came (outside held) p s c ran
-    → ReplayedPromise held heard (status_of (report.Ran ran)) p s c
-promise_of held heard p s c ran w came =
+promise_of : (words : List (List ℕ)) (held : List ℕ → Told) (heard : Heard) (p s c : List ℕ) (f : Format) (ran : Ran) → IsWritten heard (output_of f (report.Ran ran))
+    → Came (outside held) p s c (format_for words) f ran → ReplayedPromise words held heard (status_of (report.Ran ran)) p s c
+unfolding kept_package kept_spec
+promise_of words held heard p s c f ran w came =
     let run : played.Ran = record { history = came.replayed.history; undefined = ran.undefined } in
     let printed : Ran = record { lines = entry_lines came.spec.spec came.replayed.history; undefined = ran.undefined } in
     let lines = came.replayed.lines_are in
@@ -208,20 +213,24 @@ promise_of held heard p s c ran w came =
       is_schedule = came.is_schedule;
       run = run;
       is_run = came.replayed.is_ran;
-      written = subst (λ (x : Ran). IsWritten heard (text_of (report.Ran x))) same w;
+      format = f;
+      format_is = came.format_is;
+      written = subst (λ (x : Ran). IsWritten heard (output_of f (report.Ran x))) same w;
       ended = ended_where ran.undefined;
     }
 
-pub replayed : (words : List (List ℕ)) (a : Asked) (heard : Heard) (r : Report) (status : ℕ) → Deserves words a r → Tells r heard status
-    → ((command : Command) → Asks words command → Comes (outside a.held) command r)
-    → (p s c : List ℕ) → Asks words (replay p s c) → (status ≡ 0) ⊎ (status ≡ 8) → ReplayedPromise a.held heard status p s c
-replayed words a heard r status d (cut o w) comes p s c asks (inl e) = absurd (omega (arith, e))
-replayed words a heard r status d (cut o w) comes p s c asks (inr e) = absurd (omega (arith, e))
-replayed words a heard r status d (whole w f) comes p s c asks ends = go (comes (replay p s c) asks) ends
+pub replayed : (words : List (List ℕ)) (a : Asked) (heard : Heard) (z : Shown) (status : ℕ) → Puts z heard status
+    → ((command : Command) → Asks words command → Comes (outside a.held) command (format_for words) z.report z.format)
+    → (p s c : List ℕ) → Asks words (replay p s c) → (status ≡ 0) ⊎ (status ≡ 8) → ReplayedPromise words a.held heard status p s c
+replayed words a heard z status (cut o w) comes p s c asks (inl e) = absurd (omega (arith, e))
+replayed words a heard z status (cut o w) comes p s c asks (inr e) = absurd (omega (arith, e))
+replayed words a heard z status (whole w f) comes p s c asks ends = go (comes (replay p s c) asks) ends
   where
-    go : Comes (outside a.held) (replay p s c) r → (status_of r ≡ 0) ⊎ (status_of r ≡ 8) → ReplayedPromise a.held heard (status_of r) p s c
+    go : Comes (outside a.held) (replay p s c) (format_for words) z.report z.format → (status_of z.report ≡ 0) ⊎ (status_of z.report ≡ 8)
+        → ReplayedPromise words a.held heard (status_of z.report) p s c
     go (o, replays, is) ends =
         replay_came o (subst (λ (x : Report). (status_of x ≡ 0) ⊎ (status_of x ≡ 8)) is ends) (λ ran o_is.
-        let r_is : r ≡ report.Ran ran = is ∙ ap (reported replay_report) o_is in
-        subst (λ (y : Report). ReplayedPromise a.held heard (status_of y) p s c) (sym r_is)
-        (promise_of a.held heard p s c ran (subst (λ (y : Report). IsWritten heard (text_of y)) r_is w) (plays_is (outside a.held) p s c ran o o_is replays)))
+        let r_is : z.report ≡ report.Ran ran = is ∙ ap (reported replay_report) o_is in
+        subst (λ (y : Report). ReplayedPromise words a.held heard (status_of y) p s c) (sym r_is)
+        (promise_of words a.held heard p s c z.format ran (subst (λ (y : Report). IsWritten heard (output_of z.format y)) r_is w)
+        (plays_is (outside a.held) p s c (format_for words) z.format ran o o_is replays)))

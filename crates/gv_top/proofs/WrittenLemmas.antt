@@ -11,10 +11,13 @@ use Rattle.gv_small.proofs.Cuts.{both}
 use Rattle.gv_report.specs.declared.report.Report.{Report}
 use Rattle.gv_report.specs.declared.report.Report.TheVariants.{Usage, OutOfMemory, CannotRead, Refused, Unjustified, AcceptedWithoutCrash, Explained, NotExplained, Ran, Moves, NoExplanation, Spent}
 use Rattle.gv_report.specs.Report.{text_of, place_text}
-use Rattle.gv_report.specs.Heard.{Heard, Tells, whole, cut}
+use Rattle.gv_report.specs.declared.format.Format.{Format}
+use Rattle.gv_report.specs.declared.format.Format.TheVariants.{Text, Json}
+use Rattle.gv_report.specs.Heard.{Heard}
+use Rattle.gv_report.specs.Output.{Shown, Puts, whole, cut, json_of, output_of}
 use Rattle.gv_top.specs.Check.{report_of as check_report}
 use Rattle.gv_top.specs.Judge.{report_of as judge_report}
-use Rattle.gv_top.specs.Commands.{Command, check, explain, replay, judge, Asks, Comes, files_of}
+use Rattle.gv_top.specs.Commands.{Command, check, explain, replay, judge, Asks, Comes, files_of, format_for}
 use Rattle.gv_top.specs.Explain.{report_of as explain_report}
 use Rattle.gv_top.specs.Replay.{report_of as replay_report}
 use Rattle.gv_top.specs.Files.{Asked, Source, outside}
@@ -81,38 +84,40 @@ module _ (words : List (List ℕ)) (lines : (command : Command) → Asks words c
   line_of_two s h name (inr e) all = subst IsOneLine (sym e) (all 1 h (omega arith))
 
   -- the name in a refusal is a file's, so it is one line
-  refused_line : (source : Source) (name : List ℕ) (place : Place) (code : Code) (c : Command) (r : Report) → r ≡ Refused name place code → Asks words c → Comes source c r → IsOneLine name
-  refused_line source name place code (check p s t) r e asks (o, checks, is) =
-      name_line p s t name (check_refused source p s t name place code o (refused_of check_report check_own name place code o (sym e ∙ is)) checks) (lines (check p s t) asks)
-  refused_line source name place code (explain s h m) r e asks (o, explains, is) =
-      name_line s h m name (explain_refused source s h m name place code o (refused_of explain_report explain_own name place code o (sym e ∙ is)) explains) (lines (explain s h m) asks)
-  refused_line source name place code (replay p s c) r e asks (o, replays, is) =
-      name_line p s c name (replay_refused source p s c name place code o (refused_of replay_report replay_own name place code o (sym e ∙ is)) replays) (lines (replay p s c) asks)
-  refused_line source name place code (judge s h m) r e asks (o, judges, is) =
-      line_of_two s h name (judge_refused source s h m name place code o (refused_of judge_report judge_own name place code o (sym e ∙ is)) judges) (lines (judge s h m) asks)
+  refused_line : (source : Source) (name : List ℕ) (place : Place) (code : Code) (c : Command) (before after : Format) (r : Report) → r ≡ Refused name place code → Asks words c
+      → Comes source c before r after → IsOneLine name
+  refused_line source name place code (check p s t) before after r e asks (o, checks, is) =
+      name_line p s t name (check_refused source p s t name place code before after o (refused_of check_report check_own name place code o (sym e ∙ is)) checks) (lines (check p s t) asks)
+  refused_line source name place code (explain s h m) before after r e asks (o, explains, is) =
+      name_line s h m name (explain_refused source s h m name place code before after o (refused_of explain_report explain_own name place code o (sym e ∙ is)) explains) (lines (explain s h m) asks)
+  refused_line source name place code (replay p s c) before after r e asks (o, replays, is) =
+      name_line p s c name (replay_refused source p s c name place code before after o (refused_of replay_report replay_own name place code o (sym e ∙ is)) replays) (lines (replay p s c) asks)
+  refused_line source name place code (judge s h m) before after r e asks (o, judges, is) =
+      line_of_two s h name (judge_refused source s h m name place code before after o (refused_of judge_report judge_own name place code o (sym e ∙ is)) judges) (lines (judge s h m) asks)
 
-  refusal : (source : Source) (name : List ℕ) (place : Place) (code : Code) (r : Report) (rest : List ℕ) → r ≡ Refused name place code → Gives source words r → text_of (Refused name place code) ≡ text_of AcceptedWithoutCrash ++ rest → ⊥
-  refusal source name place code r rest e (usage h) f = absurd cc
-  refusal source name place code r rest e (done c asks comes) f =
+  refusal : (source : Source) (name : List ℕ) (place : Place) (code : Code) (r : Report) (f : Format) (rest : List ℕ) → r ≡ Refused name place code → Gives source words r f
+      → text_of (Refused name place code) ≡ text_of AcceptedWithoutCrash ++ rest → ⊥
+  refusal source name place code r f rest e (usage h) is = absurd cc
+  refusal source name place code r f rest e (done c asks comes) is =
       let split = refusal_text name place code in
-      no_such_line name (codes "accepted for runs without crash") split.0 rest (refused_line source name place code c r e asks comes) refl (sym split.1 ∙ f)
+      no_such_line name (codes "accepted for runs without crash") split.0 rest (refused_line source name place code c (format_for words) f r e asks comes) refl (sym split.1 ∙ is)
 
   heads : (xs ys : List ℕ) → xs ≡ ys → get_or xs 0 0 ≡ get_or ys 0 0
   heads xs ys e = ap (λ (v : List ℕ). get_or v 0 0) e
 
-  accepted_text : (a : Asked) (r : Report) (rest : List ℕ) → Gives (outside a.held) words r → text_of r ≡ text_of AcceptedWithoutCrash ++ rest → r ≡ AcceptedWithoutCrash
-  accepted_text a AcceptedWithoutCrash rest d e = refl
-  accepted_text a (Unjustified place why) rest d e = let h : 117 ≡ 97 = heads (text_of (Unjustified place why)) (text_of AcceptedWithoutCrash ++ rest) e in absurd (omega (arith, h))
-  accepted_text a Explained rest d e = let h : 101 ≡ 97 = heads (text_of Explained) (text_of AcceptedWithoutCrash ++ rest) e in absurd (omega (arith, h))
-  accepted_text a (NotExplained at why) rest d e = let h : 110 ≡ 97 = heads (text_of (NotExplained at why)) (text_of AcceptedWithoutCrash ++ rest) e in absurd (omega (arith, h))
-  accepted_text a Usage rest d e = let h : 117 ≡ 97 = heads (text_of Usage) (text_of AcceptedWithoutCrash ++ rest) e in absurd (omega (arith, h))
-  accepted_text a (CannotRead name) rest d e = let h : 99 ≡ 97 = heads (text_of (CannotRead name)) (text_of AcceptedWithoutCrash ++ rest) e in absurd (omega (arith, h))
-  accepted_text a (Refused name place code) rest d e = absurd (refusal (outside a.held) name place code (Refused name place code) rest refl d e)
-  accepted_text a OutOfMemory rest d e = let h : 111 ≡ 97 = heads (text_of OutOfMemory) (text_of AcceptedWithoutCrash ++ rest) e in absurd (omega (arith, h))
-  accepted_text a (Ran ran) rest d e = absurd (ran_text words (outside a.held) ran rest d e)
-  accepted_text a (Moves moves) rest d e = absurd (moves_text words (outside a.held) moves rest d e)
-  accepted_text a NoExplanation rest d e = let h : 110 ≡ 97 = heads (text_of NoExplanation) (text_of AcceptedWithoutCrash ++ rest) e in absurd (omega (arith, h))
-  accepted_text a (Spent most) rest d e = let h : 115 ≡ 97 = heads (text_of (Spent most)) (text_of AcceptedWithoutCrash ++ rest) e in absurd (omega (arith, h))
+  accepted_text : (a : Asked) (r : Report) (f : Format) (rest : List ℕ) → Gives (outside a.held) words r f → text_of r ≡ text_of AcceptedWithoutCrash ++ rest → r ≡ AcceptedWithoutCrash
+  accepted_text a AcceptedWithoutCrash f rest d e = refl
+  accepted_text a (Unjustified place why) f rest d e = let h : 117 ≡ 97 = heads (text_of (Unjustified place why)) (text_of AcceptedWithoutCrash ++ rest) e in absurd (omega (arith, h))
+  accepted_text a Explained f rest d e = let h : 101 ≡ 97 = heads (text_of Explained) (text_of AcceptedWithoutCrash ++ rest) e in absurd (omega (arith, h))
+  accepted_text a (NotExplained at why) f rest d e = let h : 110 ≡ 97 = heads (text_of (NotExplained at why)) (text_of AcceptedWithoutCrash ++ rest) e in absurd (omega (arith, h))
+  accepted_text a Usage f rest d e = let h : 117 ≡ 97 = heads (text_of Usage) (text_of AcceptedWithoutCrash ++ rest) e in absurd (omega (arith, h))
+  accepted_text a (CannotRead name) f rest d e = let h : 99 ≡ 97 = heads (text_of (CannotRead name)) (text_of AcceptedWithoutCrash ++ rest) e in absurd (omega (arith, h))
+  accepted_text a (Refused name place code) f rest d e = absurd (refusal (outside a.held) name place code (Refused name place code) f rest refl d e)
+  accepted_text a OutOfMemory f rest d e = let h : 111 ≡ 97 = heads (text_of OutOfMemory) (text_of AcceptedWithoutCrash ++ rest) e in absurd (omega (arith, h))
+  accepted_text a (Ran ran) f rest d e = absurd (ran_text words (outside a.held) ran f rest d e)
+  accepted_text a (Moves moves) f rest d e = absurd (moves_text words (outside a.held) moves f rest d e)
+  accepted_text a NoExplanation f rest d e = let h : 110 ≡ 97 = heads (text_of NoExplanation) (text_of AcceptedWithoutCrash ++ rest) e in absurd (omega (arith, h))
+  accepted_text a (Spent most) f rest d e = let h : 115 ≡ 97 = heads (text_of (Spent most)) (text_of AcceptedWithoutCrash ++ rest) e in absurd (omega (arith, h))
 
   -- what was appended is what is there now
   appended_is : (o : Option (List ℕ)) (old text more : List ℕ) (now : Option (List ℕ)) → o ≡ Some old → Appended o text now → now ≡ Some (old ++ more) → text ≡ more
@@ -123,14 +128,35 @@ module _ (words : List (List ℕ)) (lines : (command : Command) → Asks words c
       let lists : x ++ text ≡ old ++ more = cc in
       append_cancel_left old text more (ap (λ (v : List ℕ). v ++ text) (sym same) ∙ lists)
 
-  line_kept : (a : Asked) (h : Heard) (r : Report) (status : ℕ) (old : List ℕ) → Deserves words a r → Tells r h status → h.before ≡ Some old → h.now ≡ Some (old ++ text_of AcceptedWithoutCrash) → AcceptedPromise words a.held
-  line_kept a h r status old d (whole w f) b n =
-      promised words a r (accepted_text a r [] d.given (appended_is h.before old (text_of r) (text_of AcceptedWithoutCrash) h.now b w n)) d
-  line_kept a h r status old d (cut o (piece, rest, split, k)) b n =
-      let is : piece ≡ text_of AcceptedWithoutCrash = appended_is h.before old piece (text_of AcceptedWithoutCrash) h.now b k n in
-      promised words a r (accepted_text a r rest d.given (split ∙ ap (λ (v : List ℕ). v ++ rest) is)) d
+  -- what begins as the line of acceptance is no object of JSON
+  no_object : (digests : List (List ℕ)) (r : Report) (rest : List ℕ) → json_of digests r ≡ text_of AcceptedWithoutCrash ++ rest → ⊥
+  no_object digests Usage rest e = let h : 117 ≡ 97 = heads (text_of Usage) (text_of AcceptedWithoutCrash ++ rest) e in omega (arith, h)
+  no_object digests OutOfMemory rest e = let h : 111 ≡ 97 = heads (text_of OutOfMemory) (text_of AcceptedWithoutCrash ++ rest) e in omega (arith, h)
+  no_object digests AcceptedWithoutCrash rest e = let h : 123 ≡ 97 = heads _ (text_of AcceptedWithoutCrash ++ rest) e in omega (arith, h)
+  no_object digests (Unjustified place why) rest e = let h : 123 ≡ 97 = heads _ (text_of AcceptedWithoutCrash ++ rest) e in omega (arith, h)
+  no_object digests Explained rest e = let h : 123 ≡ 97 = heads _ (text_of AcceptedWithoutCrash ++ rest) e in omega (arith, h)
+  no_object digests (NotExplained at why) rest e = let h : 123 ≡ 97 = heads _ (text_of AcceptedWithoutCrash ++ rest) e in omega (arith, h)
+  no_object digests (CannotRead name) rest e = let h : 123 ≡ 97 = heads _ (text_of AcceptedWithoutCrash ++ rest) e in omega (arith, h)
+  no_object digests (Refused name place code) rest e = let h : 123 ≡ 97 = heads _ (text_of AcceptedWithoutCrash ++ rest) e in omega (arith, h)
+  no_object digests (Ran ran) rest e = let h : 123 ≡ 97 = heads _ (text_of AcceptedWithoutCrash ++ rest) e in omega (arith, h)
+  no_object digests (Moves moves) rest e = let h : 123 ≡ 97 = heads _ (text_of AcceptedWithoutCrash ++ rest) e in omega (arith, h)
+  no_object digests NoExplanation rest e = let h : 123 ≡ 97 = heads _ (text_of AcceptedWithoutCrash ++ rest) e in omega (arith, h)
+  no_object digests (Spent most) rest e = let h : 123 ≡ 97 = heads _ (text_of AcceptedWithoutCrash ++ rest) e in omega (arith, h)
 
-pub accepted : (words : List (List ℕ)) (a : Asked) (h : Heard) (r : Report) (status : ℕ) → Deserves words a r → Tells r h status → IsAccepted words h status → AcceptedPromise words a.held
-accepted words a h r status d t (written old b n lines) = line_kept words lines a h r status old d t b n
-accepted words a h r status d (whole w f) (ended p s t asks e) = ended_accepting words a r p s t asks e d
-accepted words a h r status d (cut o w) (ended p s t asks e) = absurd (omega (arith, e))
+  accepted_output : (a : Asked) (r : Report) (f : Format) (rest : List ℕ) → Gives (outside a.held) words r f → output_of f r ≡ text_of AcceptedWithoutCrash ++ rest → r ≡ AcceptedWithoutCrash
+  accepted_output a r Text rest d e = accepted_text a r Text rest d e
+  accepted_output a r (Json digests) rest d e = absurd (no_object digests r rest e)
+
+  line_kept : (a : Asked) (h : Heard) (z : Shown) (status : ℕ) (old : List ℕ) → Deserves words a z.report z.format → Puts z h status → h.before ≡ Some old
+      → h.now ≡ Some (old ++ text_of AcceptedWithoutCrash) → AcceptedPromise words a.held
+  line_kept a h z status old d (whole w f) b n =
+      promised words a z.report z.format (accepted_output a z.report z.format [] d.given
+      (appended_is h.before old (output_of z.format z.report) (text_of AcceptedWithoutCrash) h.now b w n)) d
+  line_kept a h z status old d (cut o (piece, rest, split, k)) b n =
+      let is : piece ≡ text_of AcceptedWithoutCrash = appended_is h.before old piece (text_of AcceptedWithoutCrash) h.now b k n in
+      promised words a z.report z.format (accepted_output a z.report z.format rest d.given (split ∙ ap (λ (v : List ℕ). v ++ rest) is)) d
+
+pub accepted : (words : List (List ℕ)) (a : Asked) (h : Heard) (z : Shown) (status : ℕ) → Deserves words a z.report z.format → Puts z h status → IsAccepted words h status → AcceptedPromise words a.held
+accepted words a h z status d t (written old b n lines) = line_kept words lines a h z status old d t b n
+accepted words a h z status d (whole w f) (ended p s t asks e) = ended_accepting words a z.report z.format p s t asks e d
+accepted words a h z status d (cut o w) (ended p s t asks e) = absurd (omega (arith, e))

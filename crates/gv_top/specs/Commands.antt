@@ -1,11 +1,13 @@
 -- The table of commands: their words, their files, and what is answered.
-use Rattle.std.specs.Prelude.{◌≡◌, ℕ, Bool, false, List, [], ◌∷◌, map, Result, Ok, Err, codes, string_bytes}
+use Rattle.std.specs.Prelude.{◌≡◌, ℕ, Bool, true, false, List, [], ◌∷◌, ◌++◌, map, Result, Ok, Err, codes, string_bytes}
 use Rattle.std.specs.Fmt.{decimal}
 use Rattle.std.specs.Str.{bytes_eq}
 use Rattle.std.specs.declared.string.String.{String}
 use Rattle.std.specs.declared.alloc.Global.{Global}
 use Rattle.gv_report.specs.declared.report.Report.{Report}
 use Rattle.gv_report.specs.declared.report.Report.TheVariants as report
+use Rattle.gv_report.specs.declared.format.Format.{Format}
+use Rattle.gv_report.specs.declared.format.Format.TheVariants.{Text, Json}
 use Rattle.gv_top.specs.declared.commands.Command as held
 use Rattle.gv_top.specs.declared.commands.Command.TheVariants as held_command
 use Rattle.gv_top.specs.declared.check.Verdict.{Verdict}
@@ -65,16 +67,16 @@ files_of (explain spec_name history_name moves_name) = spec_name ∷ history_nam
 files_of (replay package_name spec_name schedule_name) = package_name ∷ spec_name ∷ schedule_name ∷ []
 files_of (judge spec_name history_name most) = spec_name ∷ history_name ∷ []
 
--- the reports that it may give over what the files give
-abbrev pub Comes : Source → Command → Report → Type 0
-Comes source (check package_name spec_name script_name) r =
-    (outcome : Result Verdict Halt) × check_of.Checks source package_name spec_name script_name outcome × (r ≡ reported check_of.report_of outcome)
-Comes source (explain spec_name history_name moves_name) r =
-    (outcome : Result Explanation Halt) × explain_of.Explains source spec_name history_name moves_name outcome × (r ≡ reported explain_of.report_of outcome)
-Comes source (replay package_name spec_name schedule_name) r =
-    (outcome : Result Ran Halt) × replay_of.Replays source package_name spec_name schedule_name outcome × (r ≡ reported replay_of.report_of outcome)
-Comes source (judge spec_name history_name most) r =
-    (outcome : Result Judgement Halt) × judge_of.Judges source spec_name history_name most outcome × (r ≡ reported judge_of.report_of outcome)
+-- the reports that it may give over what the files give, and the format before and after
+abbrev pub Comes : Source → Command → Format → Report → Format → Type 0
+Comes source (check package_name spec_name script_name) before r after =
+    (outcome : Result Verdict Halt) × check_of.Checks source package_name spec_name script_name before outcome after × (r ≡ reported check_of.report_of outcome)
+Comes source (explain spec_name history_name moves_name) before r after =
+    (outcome : Result Explanation Halt) × explain_of.Explains source spec_name history_name moves_name before outcome after × (r ≡ reported explain_of.report_of outcome)
+Comes source (replay package_name spec_name schedule_name) before r after =
+    (outcome : Result Ran Halt) × replay_of.Replays source package_name spec_name schedule_name before outcome after × (r ≡ reported replay_of.report_of outcome)
+Comes source (judge spec_name history_name most) before r after =
+    (outcome : Result Judgement Halt) × judge_of.Judges source spec_name history_name most before outcome after × (r ≡ reported judge_of.report_of outcome)
 
 -- ---- words
 
@@ -88,14 +90,26 @@ asks_for_json [] = false
 asks_for_json (word ∷ []) = bytes_eq word (codes "json")
 asks_for_json (word ∷ next ∷ words) = asks_for_json (next ∷ words)
 
--- The words are a command's. With a last word `json` they are none, while there is no report of that form.
+-- the words behind a command's own
+abbrev pub words_behind : Bool → List (List ℕ)
+words_behind true = codes "json" ∷ []
+words_behind false = []
+
+-- the words are a command's, and behind them perhaps `json`
 pub record Asks (words : List (List ℕ)) (command : Command) : Type 0 where
-  pub plain : asks_for_json words ≡ false
-  pub words_are : words ≡ words_of command
+  pub words_are : words ≡ words_of command ++ words_behind (asks_for_json words)
   pub in_range : AreInRange command
 
 abbrev pub IsNoCommand : List (List ℕ) → Type 0
 IsNoCommand words = (command : Command) → Asks words command → ⊥
+
+-- the format that the words ask for: in JSON, where nothing is fetched yet
+abbrev pub first_format : Bool → Format
+first_format true = Json []
+first_format false = Text
+
+abbrev pub format_for : List (List ℕ) → Format
+format_for words = first_format (asks_for_json words)
 
 -- a command as the program holds it
 abbrev pub named : held.Command → Command

@@ -1,11 +1,13 @@
 -- A file in a form: fetched, tested for its length, and read.
-use Rattle.std.specs.Prelude.{◌≡◌, ℕ, ◌+◌, ◌^◌, ◌<◌, ◌≤◌, ◌⊎◌, List, length, take, Option, Result, Ok, Err}
+use Rattle.std.specs.Prelude.{◌≡◌, ℕ, ◌+◌, ◌^◌, ◌<◌, ◌≤◌, ◌⊎◌, List, [], ◌∷◌, length, take, Option, Result, Ok, Err}
 use Rattle.gv_base.specs.declared.answers.Place.{Place}
 use Rattle.gv_base.specs.declared.answers.Code.{Code}
 use Rattle.gv_base.specs.declared.answers.Code.TheVariants.{TooLong}
 use Rattle.gv_base.specs.declared.answers.Refusal.{Refusal}
 use Rattle.gv_base.specs.declared.answers.Refusal.TheVariants as refusal
 use Rattle.gv_base.specs.Outside.{Told, Untold, Absent, Holds, Fetched, Rose, IsLast}
+use Rattle.gv_report.specs.declared.format.Format.{Format}
+use Rattle.gv_report.specs.Output.{noted}
 use Rattle.gv_small.specs.Tokens.{start}
 use Rattle.gv_top.specs.declared.files.Halt.{Halt}
 use Rattle.gv_top.specs.declared.files.Halt.TheVariants.{NoMemory, CannotRead, Refused}
@@ -100,29 +102,48 @@ pub record Reads {A : Type 0} (source : Source) (form : Form A) (name : List ℕ
   pub fits : length bytes ≤ longest
   pub spelled : form.spells bytes x
 
--- it gives too many bytes, which is told at their first place, or bytes that the form's reader refuses
-pub record IsRefused {A : Type 0} (source : Source) (form : Form A) (name : List ℕ) (place : Place) (code : Code) : Type 0 where
+-- The file gives too many bytes, which is told at their first place; or bytes that the form's reader refuses. Those that are read are noted.
+abbrev pub IsRefusedFor : {A : Type 0} → Form A → List ℕ → Place → Code → Format → Format → Type 0
+IsRefusedFor form bytes place code before after =
+    ((longest < length bytes) × (place ≡ start) × (code ≡ TooLong) × (after ≡ before))
+    ⊎ ((length bytes ≤ longest) × form.refuses bytes place code × (after ≡ noted before bytes))
+
+pub record IsRefused {A : Type 0} (source : Source) (form : Form A) (name : List ℕ) (place : Place) (code : Code) (before after : Format) : Type 0 where
   pub bytes : List ℕ
   pub given : source.gives name bytes
-  pub why : ((longest < length bytes) × (place ≡ start) × (code ≡ TooLong)) ⊎ ((length bytes ≤ longest) × form.refuses bytes place code)
+  pub why : IsRefusedFor form bytes place code before after
 
--- the command halts at this file; want of memory is free
-abbrev pub HaltsAt : {A : Type 0} → Source → Form A → List ℕ → Halt → Type 0
-HaltsAt source form name NoMemory = Unit {0}
-HaltsAt source form name (CannotRead n) = (n ≡ name) × source.fails name
-HaltsAt source form name (Refused n place code) = (n ≡ name) × IsRefused source form name place code
+-- the command halts at this file, with these formats before and after; want of memory is free
+abbrev pub HaltsAt : {A : Type 0} → Source → Form A → List ℕ → Halt → Format → Format → Type 0
+HaltsAt source form name NoMemory before after = Unit {0}
+HaltsAt source form name (CannotRead n) before after = (n ≡ name) × source.fails name × (after ≡ before)
+HaltsAt source form name (Refused n place code) before after = (n ≡ name) × IsRefused source form name place code before after
 
--- what comes of one file
-abbrev pub Opens : {A : Type 0} → Source → Form A → List ℕ → Result A Halt → Type 0
-Opens source form name (Ok x) = Reads source form name x
-Opens source form name (Err halt) = HaltsAt source form name halt
+-- what comes of one file: one that is read is noted
+abbrev pub Opens : {A : Type 0} → Source → Form A → List ℕ → Format → Result A Halt → Format → Type 0
+Opens source form name before (Ok x) after = (reads : Reads source form name x) × (after ≡ noted before reads.bytes)
+Opens source form name before (Err halt) after = HaltsAt source form name halt before after
 
 -- ---- several files
 
--- a file decides the outcome, where the command halts at it; else its value goes on to what comes next
-abbrev pub Then : {A O : Type 0} → Source → Form A → List ℕ → (A → Result O Halt → Type 0) → Result O Halt → Type 0
-Then {A} source form name Next outcome =
-    ((halt : Halt) × (outcome ≡ Err halt) × HaltsAt source form name halt) ⊎ ((x : A) × Reads source form name x × Next x outcome)
+-- what may come of a command, or of the rest of one: between these formats, this outcome
+abbrev pub Course : Type 0 → Type 1
+Course O = Format → Result O Halt → Format → Type 0
+
+-- a file decides the outcome, where the command halts at it; else it is noted, and its value goes on to what comes next
+abbrev pub Then : {A O : Type 0} → Source → Form A → List ℕ → (A → Course O) → Course O
+Then {A} source form name Next before outcome after =
+    ((halt : Halt) × (outcome ≡ Err halt) × HaltsAt source form name halt before after)
+    ⊎ ((x : A) × (reads : Reads source form name x) × Next x (noted before reads.bytes) outcome after)
+
+-- the outcome is so, and nothing more is noted
+abbrev pub Keeps : {O : Type 0} → (Result O Halt → Type 0) → Course O
+Keeps Outcome before outcome after = Outcome outcome × (after ≡ before)
+
+-- the format once these texts were read, in order
+abbrev pub noted_all : Format → List (List ℕ) → Format
+noted_all format [] = format
+noted_all format (bytes ∷ more) = noted_all (noted format bytes) more
 
 -- where all files are read, the command has an outcome of its own
 abbrev pub Ends : {O : Type 0} → (O → Type 0) → Result O Halt → Type 0

@@ -1,5 +1,5 @@
 -- The command `judge SPEC HISTORY MOST`.
-use Rattle.std.specs.Prelude.{◌≡◌, ℕ, ◌≤◌, List, map, Result}
+use Rattle.std.specs.Prelude.{◌≡◌, ℕ, ◌≤◌, List, map}
 use Rattle.std.specs.Fmt.{decimal}
 use Rattle.gv_atomic.specs.declared.spec.Spec.{Spec}
 use Rattle.gv_spec.specs.declared.entry.Entry.{Entry}
@@ -10,10 +10,9 @@ use Rattle.gv_judge.specs.Search as nodes
 use Rattle.gv_lines.specs.Moves.{move_lines}
 use Rattle.gv_report.specs.declared.report.Report.{Report}
 use Rattle.gv_report.specs.declared.report.Report.TheVariants as report
-use Rattle.gv_top.specs.declared.files.Halt.{Halt}
 use Rattle.gv_top.specs.declared.judge.Judgement.{Judgement}
 use Rattle.gv_top.specs.declared.judge.Judgement.TheVariants.{Explained, Unexplained, Spent}
-use Rattle.gv_top.specs.Files.{Source, Then, Finishes}
+use Rattle.gv_top.specs.Files.{Source, Course, Then, Keeps, Finishes}
 use Rattle.gv_top.specs.Forms.{written_specs, histories_of}
 
 -- ---- words
@@ -58,11 +57,11 @@ Tells s history most Unexplained = AreNoneFull s history most × IsUnexplained s
 Tells s history most (Spent spent) = (spent ≡ most) × AreSpent s history most
 
 -- each file is fetched and read before the next, and then the nodes are gone through
-abbrev pub Judges : Source → List ℕ → List ℕ → ℕ → Result Judgement Halt → Type 0
+abbrev pub Judges : Source → List ℕ → List ℕ → ℕ → Course Judgement
 Judges source spec_name history_name most =
     Then source written_specs spec_name (λ s.
     Then source (histories_of s) history_name (λ history.
-    Finishes (Tells s history.items most)))
+    Keeps (Finishes (Tells s history.items most))))
 
 abbrev pub report_of : Judgement → Report
 report_of (Explained lines) = report.Moves lines

@@ -1,5 +1,5 @@
 -- What `run` promises of the files, by the command that its words are.
-use Rattle.std.specs.Prelude.{◌≡◌, ◌≢◌, ◌↔◌, ℕ, ◌+◌, ◌*◌, ◌≤◌, ◌⊎◌, true, not, ◌==◌, List, ◌++◌, length, map, Some, None, Err, All, Vec}
+use Rattle.std.specs.Prelude.{◌≡◌, ◌≢◌, ◌↔◌, ℕ, ◌+◌, ◌*◌, ◌≤◌, ◌⊎◌, true, not, ◌==◌, List, [], ◌∷◌, ◌++◌, length, map, Some, None, Err, All, Vec}
 use Rattle.std.specs.List.{list_all}
 use Rattle.std.specs.declared.alloc.Global.{Global}
 use Rattle.gv_base.specs.Outside.{Told}
@@ -16,12 +16,14 @@ use Rattle.gv_smallspec.specs.SmallSpec.{IsSmallOf}
 use Rattle.gv_smallprogram.specs.Program.{program_of}
 use Rattle.gv_history.specs.declared.fault.WalkCause.{WalkCause}
 use Rattle.gv_history.specs.Fault.{cause_of}
+use Rattle.gv_report.specs.declared.format.Format.{Format}
 use Rattle.gv_report.specs.declared.report.Report.TheVariants.{AcceptedWithoutCrash, NotExplained, Ran}
 use Rattle.gv_report.specs.Report.{status_of, text_of}
 use Rattle.gv_report.specs.Heard.{Heard, IsWritten}
-use Rattle.gv_top.specs.Files.{Reads, outside}
+use Rattle.gv_report.specs.Output.{output_of}
+use Rattle.gv_top.specs.Files.{Reads, outside, noted_all}
 use Rattle.gv_top.specs.Forms.{packages, written_specs, histories_of, moves_of}
-use Rattle.gv_top.specs.Commands.{check, explain, replay, judge, Asks, files_of}
+use Rattle.gv_top.specs.Commands.{check, explain, replay, judge, Asks, files_of, format_for}
 use Rattle.gv_replay.specs.declared.schedule.Schedule.{Schedule}
 use Rattle.gv_played.specs.declared.replaying.Ran as played
 use Rattle.gv_played.specs.Played.{IsRan}
@@ -71,7 +73,7 @@ pub record AcceptedPromise (words : List (List ℕ)) (held : List ℕ → Told) 
   pub refines : RefinesWithoutCrash (machine_of (program_of program) (setting_of atomic)) (atomic_of atomic)
 
 -- THE PROMISE of `explain` on files of these names, where it ends with status 0 or 1.
-pub record ExplainedPromise (held : List ℕ → Told) (heard : Heard) (status : ℕ) (spec_name history_name moves_name : List ℕ) : Type 0 where
+pub record ExplainedPromise (words : List (List ℕ)) (held : List ℕ → Told) (heard : Heard) (status : ℕ) (spec_name history_name moves_name : List ℕ) : Type 0 where
   -- What the files held, where that is told, spells a specification, a history of its calls, and moves.
   pub atomic : Spec
   pub is_spec : Reads (outside held) written_specs spec_name atomic
@@ -79,14 +81,17 @@ pub record ExplainedPromise (held : List ℕ → Told) (heard : Heard) (status :
   pub is_history : Reads (outside held) (histories_of atomic) history_name history
   pub moves : Vec Move Global
   pub are_moves : Reads (outside held) (moves_of atomic) moves_name moves
+  -- It is written in the format that the words ask for, in JSON with the digests of these three texts.
+  pub format : Format
+  pub format_is : format ≡ noted_all (format_for words) (is_spec.bytes ∷ is_history.bytes ∷ are_moves.bytes ∷ [])
   -- The status is 0 exactly where the moves explain the history.
   pub explains : status ≡ 0 ↔ IsExplanation atomic moves.items history.items
   -- With status 1 it wrote the first move that is refused, by its number from 1, and why: the walk's first fault.
-  pub fault : status ≡ 1 → (at : ℕ) × (cause : WalkCause) × IsWritten heard (text_of (NotExplained at cause))
+  pub fault : status ≡ 1 → (at : ℕ) × (cause : WalkCause) × IsWritten heard (output_of format (NotExplained at cause))
       × (walked atomic history.items moves.items ≡ Err (record { index = at; cause = cause_of cause }))
 
 -- THE PROMISE of `replay` on files of these names, where it ends with status 0 or 8.
-pub record ReplayedPromise (held : List ℕ → Told) (heard : Heard) (status : ℕ) (package_name spec_name schedule_name : List ℕ) : Type 0 where
+pub record ReplayedPromise (words : List (List ℕ)) (held : List ℕ → Told) (heard : Heard) (status : ℕ) (package_name spec_name schedule_name : List ℕ) : Type 0 where
   -- What the files held, where that is told, is a package of the grammar that spells this one of the small form, a specification with
   -- the same operations, and a schedule of its calls.
   pub program : Small
@@ -101,12 +106,15 @@ pub record ReplayedPromise (held : List ℕ → Told) (heard : Heard) (status : 
   -- many live cells.
   pub run : played.Ran
   pub is_run : IsRan (program_of program) atomic schedule.events run
-  -- The history was written, an entry a line, and behind it `end` with status 0, or the undefined event with status 8.
-  pub written : IsWritten heard (text_of (Ran (record { lines = entry_lines atomic run.history; undefined = run.undefined })))
+  -- The history was written, an entry a line, and behind it `end` with status 0, or the undefined event with status 8, in the format that
+  -- the words ask for.
+  pub format : Format
+  pub format_is : format ≡ noted_all (format_for words) (is_package.bytes ∷ is_spec.bytes ∷ is_schedule.bytes ∷ [])
+  pub written : IsWritten heard (output_of format (Ran (record { lines = entry_lines atomic run.history; undefined = run.undefined })))
   pub ended : status ≡ 0 ↔ (run.undefined ≡ None)
 
 -- THE PROMISE of `judge` on files of these names, with so many nodes to go through, where it ends with status 0, 1 or 7.
-pub record JudgedPromise (held : List ℕ → Told) (heard : Heard) (status : ℕ) (spec_name history_name : List ℕ) (most : ℕ) : Type 0 where
+pub record JudgedPromise (words : List (List ℕ)) (held : List ℕ → Told) (heard : Heard) (status : ℕ) (spec_name history_name : List ℕ) (most : ℕ) : Type 0 where
   -- What the files held, where that is told, spells a specification, and a history of its calls.
   pub atomic : Spec
   pub is_spec : Reads (outside held) written_specs spec_name atomic
@@ -115,7 +123,9 @@ pub record JudgedPromise (held : List ℕ → Told) (heard : Heard) (status : �
   -- It told this of the history: the first full node's moves, which explain it; that nothing does; or that the nodes are spent.
   pub judgement : Judgement
   pub tells : Tells atomic history.items most judgement
-  pub written : IsWritten heard (text_of (report_of judgement))
+  pub format : Format
+  pub format_is : format ≡ noted_all (format_for words) (is_spec.bytes ∷ is_history.bytes ∷ [])
+  pub written : IsWritten heard (output_of format (report_of judgement))
   pub ended : status ≡ status_of (report_of judgement)
   -- So the status is 0 exactly where the number of the first full node is at most `most`, 1 exactly where there are at most so many
   -- nodes and none is full, and 7 exactly where there are more and none of the first so many is full.
@@ -129,8 +139,8 @@ pub record JudgedPromise (held : List ℕ → Told) (heard : Heard) (status : �
 pub record Promise (words : List (List ℕ)) (held : List ℕ → Told) (heard : Heard) (status : ℕ) : Type 0 where
   pub accepted : IsAccepted words heard status → AcceptedPromise words held
   pub explained : (spec_name history_name moves_name : List ℕ) → Asks words (explain spec_name history_name moves_name) → status ≤ 1
-      → ExplainedPromise held heard status spec_name history_name moves_name
+      → ExplainedPromise words held heard status spec_name history_name moves_name
   pub replayed : (package_name spec_name schedule_name : List ℕ) → Asks words (replay package_name spec_name schedule_name) → (status ≡ 0) ⊎ (status ≡ 8)
-      → ReplayedPromise held heard status package_name spec_name schedule_name
+      → ReplayedPromise words held heard status package_name spec_name schedule_name
   pub judged : (spec_name history_name : List ℕ) (most : ℕ) → Asks words (judge spec_name history_name most)
-      → (status ≡ 0) ⊎ ((status ≡ 1) ⊎ (status ≡ 7)) → JudgedPromise held heard status spec_name history_name most
+      → (status ≡ 0) ⊎ ((status ≡ 1) ⊎ (status ≡ 7)) → JudgedPromise words held heard status spec_name history_name most

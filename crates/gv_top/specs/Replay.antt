@@ -20,7 +20,7 @@ use Rattle.gv_top.specs.declared.files.Halt.{Halt}
 use Rattle.gv_top.specs.declared.files.Halt.TheVariants.{NoMemory, CannotRead, Refused}
 use Rattle.gv_top.specs.declared.replay_forms.WrittenPackage.{WrittenPackage}
 use Rattle.gv_top.specs.declared.replay_forms.WrittenSpec.{WrittenSpec}
-use Rattle.gv_top.specs.Files.{Source, Then}
+use Rattle.gv_top.specs.Files.{Source, Course, Then, Keeps}
 use Rattle.gv_top.specs.ReplayForms.{written_packages, kept_specs, schedules_of}
 
 -- ---- before the schedule is fetched
@@ -43,9 +43,10 @@ HaltsBetween package_name spec_name p s (CannotRead name) = ⊥
 HaltsBetween package_name spec_name p s (Refused name place code) = (code ≡ Interface) × IsOther package_name spec_name p s name place
 
 -- the command halts there; or the operations are the same, and it goes on
-abbrev pub IfSame : {O : Type 0} → List ℕ → List ℕ → WrittenPackage → WrittenSpec → (Result O Halt → Type 0) → Result O Halt → Type 0
-IfSame package_name spec_name p s Next outcome =
-    ((halt : Halt) × (outcome ≡ Err halt) × HaltsBetween package_name spec_name p s halt) ⊎ (SameOperations p.small s.spec × Next outcome)
+abbrev pub IfSame : {O : Type 0} → List ℕ → List ℕ → WrittenPackage → WrittenSpec → Course O → Course O
+IfSame package_name spec_name p s Next before outcome after =
+    ((halt : Halt) × (outcome ≡ Err halt) × HaltsBetween package_name spec_name p s halt × (after ≡ before))
+    ⊎ (SameOperations p.small s.spec × Next before outcome after)
 
 -- ---- the run
 
@@ -65,13 +66,13 @@ Plays program s schedule_name lines (Err (Refused name place code)) =
     (name ≡ schedule_name) × (code ≡ TooManyCells) × IsTooMany (program_of program) s lines place
 
 -- Each file is fetched and read before the next; the operations are compared before the schedule is fetched; and then its events are run.
-abbrev pub Replays : Source → List ℕ → List ℕ → List ℕ → Result Ran Halt → Type 0
+abbrev pub Replays : Source → List ℕ → List ℕ → List ℕ → Course Ran
 Replays source package_name spec_name schedule_name =
     Then source written_packages package_name (λ p.
     Then source kept_specs spec_name (λ s.
     IfSame package_name spec_name p s (
     Then source (schedules_of s.spec) schedule_name (λ schedule.
-    Plays p.small s.spec schedule_name schedule.events))))
+    Keeps (Plays p.small s.spec schedule_name schedule.events)))))
 
 abbrev pub report_of : Ran → Report
 report_of ran = report.Ran ran

@@ -3,16 +3,19 @@ use Rattle.std.specs.Prelude.{◌≡◌, ◌≢◌, ℕ, ◌-◌, ◌^◌, ◌<�
 use Rattle.gv_base.specs.Outside.{Told}
 use Rattle.gv_report.specs.declared.report.Report.{Report}
 use Rattle.gv_report.specs.declared.report.Report.TheVariants.{Usage, OutOfMemory, CannotRead}
-use Rattle.gv_report.specs.Report.{status_of, text_of}
+use Rattle.gv_report.specs.declared.format.Format.{Format}
+use Rattle.gv_report.specs.declared.format.Format.TheVariants.{Text}
+use Rattle.gv_report.specs.Output.{output_of}
+use Rattle.gv_report.specs.Report.{status_of}
 use Rattle.gv_report.specs.Heard as sink
 use Rattle.gv_report.specs.Heard.{Heard, IsWritten, IsPrefixWritten}
 use Rattle.gv_top.specs.Files.{Asked, Failed, NoneFailed, Source, outside, as_told, IsAbsent}
-use Rattle.gv_top.specs.Commands.{Command, Asks, IsNoCommand, Comes}
+use Rattle.gv_top.specs.Commands.{Command, Asks, IsNoCommand, Comes, format_for}
 
--- the reports that words may have, over what the files give: the usage line where they are no command, else what comes of it
-pub data Gives (source : Source) (words : List (List ℕ)) : Report → Type 0 where
-  usage : IsNoCommand words → Gives source words Usage
-  done : (command : Command) {r : Report} → Asks words command → Comes source command r → Gives source words r
+-- the reports that words may have, and their formats, over what the files give: the usage line where they are no command, else what comes of it
+pub data Gives (source : Source) (words : List (List ℕ)) : Report → Format → Type 0 where
+  usage : IsNoCommand words → Gives source words Usage (format_for words)
+  done : (command : Command) {r : Report} {f : Format} → Asks words command → Comes source command (format_for words) r f → Gives source words r f
 
 -- a fetch failed in between just where the report says so, and of the name that it says
 abbrev pub IsBlamedIn : Asked → Report → Type 0
@@ -20,14 +23,14 @@ IsBlamedIn a (CannotRead name) = Failed a name
 IsBlamedIn a OutOfMemory = Unit {0}
 IsBlamedIn a _ = NoneFailed a
 
--- a report that the words, what files hold and what was asked of them deserve
-pub record Deserves (words : List (List ℕ)) (a : Asked) (r : Report) : Type 0 where
-  pub given : Gives (outside a.held) words r
+-- a report, in its format, that the words, what files hold and what was asked of them deserve
+pub record Deserves (words : List (List ℕ)) (a : Asked) (r : Report) (f : Format) : Type 0 where
+  pub given : Gives (outside a.held) words r f
   pub blamed : IsBlamedIn a r
 
--- the report that the words and what is told of the files define
-abbrev pub Defines : List (List ℕ) → (List ℕ → Told) → Report → Type 0
-Defines words held r = Gives (as_told held) words r
+-- the report, in its format, that the words and what is told of the files define
+abbrev pub Defines : List (List ℕ) → (List ℕ → Told) → Report → Format → Type 0
+Defines words held r f = Gives (as_told held) words r f
 
 -- each fetch that failed in between was of a file that is told as absent
 abbrev pub OnlyAbsentFailed : Asked → Type 0
@@ -37,20 +40,21 @@ OnlyAbsentFailed a = (name : List ℕ) → Failed a name → IsAbsent (a.held na
 abbrev pub NoPutFailed : Heard → Type 0
 NoPutFailed h = sink.NoneFailed h × (h.faults_before < 2 ^ 64 - 1)
 
--- this report's status, and its text written
-abbrev pub IsTold : Heard → Report → ℕ → Type 0
-IsTold h r status = (status ≡ status_of r) × IsWritten h (text_of r)
+-- this report's status, and the report written in this format
+abbrev pub IsTold : Heard → Report → Format → ℕ → Type 0
+IsTold h r f status = (status ≡ status_of r) × IsWritten h (output_of f r)
 
--- a put failed, and a prefix of the text of a report that was deserved was written
+-- a put failed, and a prefix of a report that was deserved was written in its format
 pub record IsCutOff (words : List (List ℕ)) (a : Asked) (h : Heard) : Type 0 where
   pub report : Report
-  pub deserved : Deserves words a report
+  pub format : Format
+  pub deserved : Deserves words a report format
   pub fault : sink.OneFailed h
-  pub written : IsPrefixWritten h (text_of report)
+  pub written : IsPrefixWritten h (output_of format report)
 
--- this report was deserved, and all of its text was written
+-- this report was deserved, and all of it was written in its format
 abbrev pub Answers : List (List ℕ) → Asked → Heard → Report → Type 0
-Answers words a h r = Deserves words a r × IsWritten h (text_of r)
+Answers words a h r = (f : Format) × Deserves words a r f × IsWritten h (output_of f r)
 
 -- `run` on these words ended with this status; what it asked of the files, and what the sink heard of it.
 pub record IsAnswered (words : List (List ℕ)) (a : Asked) (h : Heard) (status : ℕ) : Type 0 where
@@ -63,9 +67,9 @@ pub record IsAnswered (words : List (List ℕ)) (a : Asked) (h : Heard) (status 
   -- 6 comes only where a put failed, and then always; a prefix of such a report was written.
   pub cut_off : status ≡ 6 → IsCutOff words a h
   pub always_cut_off : h.faults_before < h.faults_now → status ≡ 6
-  -- Where the words and what is told of the files define a report, each fetch that failed was of a file that is told as
-  -- absent, and no put failed, this report is answered, or want of memory is. So each status comes wherever it must.
-  pub exact : (r : Report) → Defines words a.held r → r ≢ OutOfMemory → OnlyAbsentFailed a → NoPutFailed h →
-      IsTold h r status ⊎ IsTold h OutOfMemory status
+  -- Where the words and what is told of the files define a report and its format, each fetch that failed was of a file that is told as
+  -- absent, and no put failed, this report is answered so, or want of memory is. So each status comes wherever it must.
+  pub exact : (r : Report) (f : Format) → Defines words a.held r f → r ≢ OutOfMemory → OnlyAbsentFailed a → NoPutFailed h →
+      IsTold h r f status ⊎ IsTold h OutOfMemory Text status
   -- There is no other status.
   pub known : status ≤ 8

@@ -10,7 +10,7 @@ use crate::files::{Halt, read_file};
 use crate::forms::{Packages, ScriptsFor, SpecsFor};
 use crate::small_script::SmallScript;
 use gv_base::{Files, Place, Small};
-use gv_report::{Cause, Report};
+use gv_report::{Cause, Format, Report};
 use std::alloc::Global;
 
 /// The file words of `check PKG SPEC SCRIPT`. This project's own.
@@ -63,18 +63,30 @@ fn compared(package: &Small, spec: &Small, script: &SmallScript) -> Verdict
 
 /// What comes of `check PKG SPEC SCRIPT`: each file is fetched and read, and its operations are
 /// compared with the package's, before the next is fetched.
-pub fn check<F: Files>(alloc: Global, names: &CheckWords, files: &mut F) -> Result<Verdict, Halt>
-    ensures outcome { checking.Checks (outside (F.held files.old)) names.now.«package».now names.now.spec.now names.now.script.now result }
+pub fn check<F: Files>(
+    alloc: Global,
+    names: &CheckWords,
+    files: &mut F,
+    format: &mut Format,
+) -> Result<Verdict, Halt>
+    ensures outcome { checking.Checks (outside (F.held files.old)) names.now.«package».now names.now.spec.now names.now.script.now format.old result format.new }
     ensures blame { IsBlamed (asked F.held F.faults F.failed files.old files.new) result }
     ensures kept { (other : Seq ℕ) → F.held files.new other ≡ F.held files.old other }
 {
-    let package = read_file(alloc, &Packages {}, names.package, files)?;
-    let spec = read_file(alloc, &SpecsFor { package: &package }, names.spec, files)?;
+    let package = read_file(alloc, &Packages {}, names.package, files, format)?;
+    let spec = read_file(
+        alloc,
+        &SpecsFor { package: &package },
+        names.spec,
+        files,
+        format,
+    )?;
     let script = read_file(
         alloc,
         &ScriptsFor { package: &package },
         names.script,
         files,
+        format,
     )?;
     Ok(compared(&package, &spec, &script))
 }

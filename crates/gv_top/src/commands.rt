@@ -1,6 +1,6 @@
 //! The table of commands.
 
-ghost use Rattle.std.specs.Prelude.{◌≡◌, ℕ, List as Seq, IfSome, IfNone, map, codes, string_bytes};
+ghost use Rattle.std.specs.Prelude.{◌≡◌, ℕ, true, false, List as Seq, IfSome, IfNone, map, codes, string_bytes};
 ghost use Rattle.gv_top.specs.Check.{report_of};
 ghost use Rattle.gv_top.specs.Commands as table;
 ghost use Rattle.gv_top.specs.Commands.{Command as AnyCommand, AreWordsOf, AreInRange};
@@ -15,8 +15,8 @@ use crate::explain::{ExplainWords, Explanation, explain};
 use crate::files::Halt;
 use crate::judge::{JudgeWords, Judgement, judge, most_of};
 use crate::replay::{ReplayWords, replay};
-use gv_base::Files;
-use gv_report::{Ran, Report};
+use gv_base::{Files, List};
+use gv_report::{Format, Ran, Report};
 use std::alloc::Global;
 
 /// A command with its words. This project's own.
@@ -90,16 +90,12 @@ fn of_three<'a>(
     None
 }
 
-/// The command that the words are. A last word `json` is always that word; as there is no report of
-/// that form, words with it are no command.
-pub fn command_of(words: &Vec<String>) -> Option<Command>
-    ensures some { IfSome result (λ c. table.Asks (table.texts words.now.items) (table.named c)) }
-    ensures none { IfNone result (table.IsNoCommand (table.texts words.now.items)) }
+// The command that words without a last word `json` are.
+fn plain(words: &[String]) -> Option<Command>
+    requires { table.asks_for_json (table.texts words.now) ≡ false }
+    ensures some { IfSome result (λ c. table.Asks (table.texts words.now) (table.named c)) }
+    ensures none { IfNone result (table.IsNoCommand (table.texts words.now)) }
 {
-    let words = words.as_slice();
-    if asks_for_json(words) {
-        return None;
-    }
     match words {
         [command, first, second, third] => of_three(
             command.as_str(),
@@ -108,6 +104,49 @@ pub fn command_of(words: &Vec<String>) -> Option<Command>
             third.as_str(),
         ),
         _ => None,
+    }
+}
+
+// The command that words before a last word `json` are.
+fn in_json(words: &[String]) -> Option<Command>
+    requires { table.asks_for_json (table.texts words.now) ≡ true }
+    ensures some { IfSome result (λ c. table.Asks (table.texts words.now) (table.named c)) }
+    ensures none { IfNone result (table.IsNoCommand (table.texts words.now)) }
+{
+    match words {
+        [command, first, second, third, _] => of_three(
+            command.as_str(),
+            first.as_str(),
+            second.as_str(),
+            third.as_str(),
+        ),
+        _ => None,
+    }
+}
+
+/// The command that the words are, and behind them perhaps `json`. A last word `json` is always that word.
+pub fn command_of(words: &Vec<String>) -> Option<Command>
+    ensures some { IfSome result (λ c. table.Asks (table.texts words.now.items) (table.named c)) }
+    ensures none { IfNone result (table.IsNoCommand (table.texts words.now.items)) }
+{
+    let words = words.as_slice();
+    if asks_for_json(words) {
+        in_json(words)
+    } else {
+        plain(words)
+    }
+}
+
+/// The format that the words ask for, before a file is fetched.
+pub fn format_for(alloc: Global, words: &Vec<String>) -> Format
+    ensures { result ≡ table.format_for (table.texts words.now.items) }
+{
+    if asks_for_json(words.as_slice()) {
+        Format::Json {
+            digests: List::new(alloc),
+        }
+    } else {
+        Format::Text
     }
 }
 
@@ -165,16 +204,21 @@ fn replay_report(outcome: Result<Ran, Halt>) -> Report
 }
 
 /// The report of what comes of a command.
-pub fn perform<F: Files>(alloc: Global, command: &Command, files: &mut F) -> Report
+pub fn perform<F: Files>(
+    alloc: Global,
+    command: &Command,
+    files: &mut F,
+    format: &mut Format,
+) -> Report
     requires { AreInRange (table.named command.now) }
-    ensures comes { table.Comes (outside (F.held files.old)) (table.named command.now) result }
+    ensures comes { table.Comes (outside (F.held files.old)) (table.named command.now) format.old result format.new }
     ensures blame { IsBlamedIn (asked F.held F.faults F.failed files.old files.new) result }
     ensures kept { (other : Seq ℕ) → F.held files.new other ≡ F.held files.old other }
 {
     match command {
-        Command::Check(names) => check_report(check(alloc, names, files)),
-        Command::Explain(names) => explain_report(explain(alloc, names, files)),
-        Command::Replay(names) => replay_report(replay(alloc, names, files)),
-        Command::Judge(names) => judge_report(judge(alloc, names, files)),
+        Command::Check(names) => check_report(check(alloc, names, files, format)),
+        Command::Explain(names) => explain_report(explain(alloc, names, files, format)),
+        Command::Replay(names) => replay_report(replay(alloc, names, files, format)),
+        Command::Judge(names) => judge_report(judge(alloc, names, files, format)),
     }
 }

@@ -9,7 +9,7 @@ use crate::files::{Halt, read_file};
 use crate::forms::{HistoriesOf, MovesOf, Specs};
 use gv_base::Files;
 use gv_history::{WalkCause, WalkFault, walk};
-use gv_report::Report;
+use gv_report::{Format, Report};
 use gv_spec::{Entry, Move, Spec};
 use std::alloc::Global;
 
@@ -67,13 +67,20 @@ pub fn explain<F: Files>(
     alloc: Global,
     names: &ExplainWords,
     files: &mut F,
+    format: &mut Format,
 ) -> Result<Explanation, Halt>
-    ensures outcome { explaining.Explains (outside (F.held files.old)) names.now.spec.now names.now.history.now names.now.moves.now result }
+    ensures outcome { explaining.Explains (outside (F.held files.old)) names.now.spec.now names.now.history.now names.now.moves.now format.old result format.new }
     ensures blame { IsBlamed (asked F.held F.faults F.failed files.old files.new) result }
     ensures kept { (other : Seq ℕ) → F.held files.new other ≡ F.held files.old other }
 {
-    let spec = read_file(alloc, &Specs {}, names.spec, files)?;
-    let history = read_file(alloc, &HistoriesOf { spec: &spec }, names.history, files)?;
-    let moves = read_file(alloc, &MovesOf { spec: &spec }, names.moves, files)?;
+    let spec = read_file(alloc, &Specs {}, names.spec, files, format)?;
+    let history = read_file(
+        alloc,
+        &HistoriesOf { spec: &spec },
+        names.history,
+        files,
+        format,
+    )?;
+    let moves = read_file(alloc, &MovesOf { spec: &spec }, names.moves, files, format)?;
     walked(alloc, &spec, &history, &moves)
 }

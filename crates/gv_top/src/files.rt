@@ -7,6 +7,7 @@ ghost use Rattle.gv_top.specs.Files.{longest, asked, outside, any_text, form_of,
 ghost use Rattle.gv_top.specs.declared.files.Halt.TheVariants as halt;
 
 use gv_base::{Code, FetchFail, Files, Name, NoMemory, Place, Refusal};
+use gv_report::Format;
 use std::alloc::Global;
 use thiserror::Error;
 
@@ -55,14 +56,22 @@ pub trait Form {
         ensures { IsReadIn (form_of spells refuses self.now) text.now result };
 }
 
-// The text under a name.
-fn fetch<F: Files>(alloc: Global, name: &str, files: &mut F) -> Result<Vec<u8>, Halt>
-    ensures text { Opens (outside (F.held files.old)) (any_text (λ v. v.items)) name.now result }
+// The text under a name, which is noted.
+fn fetch<F: Files>(
+    alloc: Global,
+    name: &str,
+    files: &mut F,
+    format: &mut Format,
+) -> Result<Vec<u8>, Halt>
+    ensures text { Opens (outside (F.held files.old)) (any_text (λ v. v.items)) name.now format.old result format.new }
     ensures blame { IsBlamed (asked F.held F.faults F.failed files.old files.new) result }
     ensures kept { (other : Seq ℕ) → F.held files.new other ≡ F.held files.old other }
 {
     match files.fetch(alloc, name, LONGEST) {
-        Ok(text) if text.len() as u64 <= LONGEST => Ok(text),
+        Ok(text) if text.len() as u64 <= LONGEST => {
+            format.note(alloc, text.as_slice())?;
+            Ok(text)
+        }
         Ok(_) => Err(Halt::Refused {
             name: Name::from_slice(alloc, name.as_bytes())?,
             place: Place { line: 1, column: 1 },
@@ -91,17 +100,18 @@ fn read_text<R: Form>(alloc: Global, form: &R, name: &str, text: &[u8]) -> Resul
     }
 }
 
-/// The value of the file under a name, in a form: it is fetched, tested for its length, and read.
+/// The value of the file under a name, in a form: it is fetched, tested for its length, noted, and read.
 pub fn read_file<F: Files, R: Form>(
     alloc: Global,
     form: &R,
     name: &str,
     files: &mut F,
+    format: &mut Format,
 ) -> Result<R::Value, Halt>
-    ensures value { Opens (outside (F.held files.old)) (form_of R.spells R.refuses form.now) name.now result }
+    ensures value { Opens (outside (F.held files.old)) (form_of R.spells R.refuses form.now) name.now format.old result format.new }
     ensures blame { IsBlamed (asked F.held F.faults F.failed files.old files.new) result }
     ensures kept { (other : Seq ℕ) → F.held files.new other ≡ F.held files.old other }
 {
-    let text = fetch(alloc, name, files)?;
+    let text = fetch(alloc, name, files, format)?;
     read_text(alloc, form, name, text.as_slice())
 }

@@ -11,7 +11,7 @@ use crate::forms::{HistoriesOf, Specs};
 use gv_base::{Files, List, Name};
 use gv_judge::Judged;
 use gv_lines::move_lines;
-use gv_report::Report;
+use gv_report::{Format, Report};
 use gv_spec::{Entry, Spec};
 use itoa::Buffer;
 use std::alloc::Global;
@@ -88,13 +88,24 @@ fn judged(alloc: Global, spec: &Spec, history: &Vec<Entry>, most: u64) -> Result
 
 /// What comes of `judge SPEC HISTORY MOST`: each file is fetched and read before the next is fetched, and then the nodes of the
 /// search for an explanation are gone through in their order, at most so many.
-pub fn judge<F: Files>(alloc: Global, names: &JudgeWords, files: &mut F) -> Result<Judgement, Halt>
+pub fn judge<F: Files>(
+    alloc: Global,
+    names: &JudgeWords,
+    files: &mut F,
+    format: &mut Format,
+) -> Result<Judgement, Halt>
     requires { 1 ≤ names.now.most }
-    ensures outcome { judging.Judges (outside (F.held files.old)) names.now.spec.now names.now.history.now names.now.most result }
+    ensures outcome { judging.Judges (outside (F.held files.old)) names.now.spec.now names.now.history.now names.now.most format.old result format.new }
     ensures blame { IsBlamed (asked F.held F.faults F.failed files.old files.new) result }
     ensures kept { (other : Seq ℕ) → F.held files.new other ≡ F.held files.old other }
 {
-    let spec = read_file(alloc, &Specs {}, names.spec, files)?;
-    let history = read_file(alloc, &HistoriesOf { spec: &spec }, names.history, files)?;
+    let spec = read_file(alloc, &Specs {}, names.spec, files, format)?;
+    let history = read_file(
+        alloc,
+        &HistoriesOf { spec: &spec },
+        names.history,
+        files,
+        format,
+    )?;
     judged(alloc, &spec, &history, names.most)
 }

@@ -7,19 +7,23 @@ ghost use Rattle.gv_top.specs.Files.{asked};
 ghost use Rattle.gv_top.specs.Promise.{Promise};
 ghost use Rattle.gv_top.specs.Run.{Deserves, IsAnswered};
 
-use crate::commands::{command_of, perform};
+use crate::commands::{command_of, format_for, perform};
 use gv_base::{Files, Sink};
-use gv_report::{Answer, Report};
+use gv_report::{Format, Output, Report};
 use std::alloc::Global;
 
-// A report that the words and the files deserve.
-fn deserved<F: Files>(alloc: Global, words: &Vec<String>, files: &mut F) -> Report
-    ensures deserved { Deserves (texts words.now.items) (asked F.held F.faults F.failed files.old files.new) result }
+// A report that the words and the files deserve, and its format.
+fn deserved<F: Files>(alloc: Global, words: &Vec<String>, files: &mut F) -> (Report, Format)
+    ensures deserved { Deserves (texts words.now.items) (asked F.held F.faults F.failed files.old files.new) result.0 result.1 }
     ensures kept { (other : Seq ℕ) → F.held files.new other ≡ F.held files.old other }
 {
+    let mut format = format_for(alloc, words);
     match command_of(words) {
-        None => Report::Usage,
-        Some(command) => perform(alloc, &command, files),
+        None => (Report::Usage, format),
+        Some(command) => {
+            let report = perform(alloc, &command, files, &mut format);
+            (report, format)
+        }
     }
 }
 
@@ -39,6 +43,6 @@ pub fn run<F: Files, K: Sink>(alloc: Global, words: &Vec<String>, files: &mut F,
     // What the files hold stays.
     ensures kept { (other : Seq ℕ) → F.held files.new other ≡ F.held files.old other }
 {
-    let report = deserved(alloc, words, files);
-    Answer::new(alloc, report).tell(out)
+    let (report, format) = deserved(alloc, words, files);
+    Output::new(alloc, report, format).tell(out)
 }

@@ -18,7 +18,7 @@ use gv_interfaces::{Difference, first_difference};
 use gv_lines::entry_lines;
 use gv_played::{Ran as Run, ReplayFault};
 use gv_replay::Schedule;
-use gv_report::Ran;
+use gv_report::{Format, Ran};
 use gv_smallprogram::program_of;
 use gv_spec::Spec;
 use std::alloc::Global;
@@ -106,19 +106,25 @@ fn played(
 
 /// What comes of `replay PKG SPEC SCHEDULE`: each file is fetched and read before the next is fetched, the operations of the package and of
 /// the specification are compared before the schedule is, and then its events are run.
-pub fn replay<F: Files>(alloc: Global, names: &ReplayWords, files: &mut F) -> Result<Ran, Halt>
-    ensures outcome { replaying.Replays (outside (F.held files.old)) names.now.«package».now names.now.spec.now names.now.schedule.now result }
+pub fn replay<F: Files>(
+    alloc: Global,
+    names: &ReplayWords,
+    files: &mut F,
+    format: &mut Format,
+) -> Result<Ran, Halt>
+    ensures outcome { replaying.Replays (outside (F.held files.old)) names.now.«package».now names.now.spec.now names.now.schedule.now format.old result format.new }
     ensures blame { IsBlamed (asked F.held F.faults F.failed files.old files.new) result }
     ensures kept { (other : Seq ℕ) → F.held files.new other ≡ F.held files.old other }
 {
-    let package = read_file(alloc, &WrittenPackages {}, names.package, files)?;
-    let spec = read_file(alloc, &WrittenSpecs {}, names.spec, files)?;
+    let package = read_file(alloc, &WrittenPackages {}, names.package, files, format)?;
+    let spec = read_file(alloc, &WrittenSpecs {}, names.spec, files, format)?;
     agreed(alloc, names, &package, &spec)?;
     let schedule = read_file(
         alloc,
         &SchedulesOf { spec: &spec.spec },
         names.schedule,
         files,
+        format,
     )?;
     played(alloc, names.schedule, &package.small, &spec.spec, &schedule)
 }
