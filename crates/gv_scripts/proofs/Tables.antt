@@ -1,0 +1,34 @@
+-- Tables to which names are added.
+use Rattle.std.proofs.Common.{◌≡◌, ℕ, Bool, true, false, ◌||◌, cond, List, [], ◌∷◌, ◌++◌, refl, sym, ap, ◌∙◌}
+use Rattle.std.specs.List.{list_any}
+use Rattle.std.specs.Str.{bytes_eq}
+use Rattle.std.proofs.lemmas.Slice.Eq.{bytes_eq-Decides}
+use Rattle.std.proofs.lemmas.Bool.Decides.{same_from_decides}
+use Rattle.gv_scriptnames.specs.Scopes.{is_borne}
+use Rattle.gv_scripts.specs.declared.names.NameSet.{NameSet}
+use Rattle.gv_scripts.specs.Tables.{has, Holds}
+
+pub eq_turned : (a b : List ℕ) → bytes_eq a b ≡ bytes_eq b a
+eq_turned a b = let d = bytes_eq-Decides b a in same_from_decides (bytes_eq a b) (bytes_eq b a) (bytes_eq-Decides a b) (λ e. sym (d.0 e), λ p. d.1 (sym p))
+
+any_last : {T : Type 0} (p : T → Bool) (xs : List T) (y : T) → list_any p (xs ++ y ∷ []) ≡ (list_any p xs || p y)
+any_last p [] y = last (p y)
+  where
+    last : (b : Bool) → (b || false) ≡ b
+    last true = refl
+    last false = refl
+any_last p (x ∷ xs) y = step (p x) (any_last p xs y)
+  where
+    step : (b : Bool) → list_any p (xs ++ y ∷ []) ≡ (list_any p xs || p y) → (b || list_any p (xs ++ y ∷ [])) ≡ ((b || list_any p xs) || p y)
+    step true h = refl
+    step false h = h
+
+-- a name is in a set to which one was added
+pub holds_more : (names : List (List ℕ)) (name : List ℕ) (old new : NameSet) → ((n : List ℕ) → has new n ≡ cond (bytes_eq name n) true (has old n)) → Holds names old → Holds (names ++ name ∷ []) new
+holds_more names name old new more was n = more n ∙ step (bytes_eq name n) (has old n) ∙ ap (λ b. b || bytes_eq name n) (was n) ∙ ap (λ b. is_borne names n || b) (eq_turned name n) ∙ sym (any_last (bytes_eq n) names name)
+  where
+    step : (b o : Bool) → cond b true o ≡ (o || b)
+    step true true = refl
+    step true false = refl
+    step false true = refl
+    step false false = refl

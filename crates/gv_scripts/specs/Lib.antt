@@ -1,0 +1,4 @@
+pub mod Least
+pub mod Tables
+pub mod Scoped
+pub mod Noted

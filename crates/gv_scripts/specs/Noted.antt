@@ -1,0 +1,48 @@
+-- What is noted of the parts of an outline.
+use Rattle.std.specs.Prelude.{◌≡◌, ℕ, List, [], ◌∷◌, ◌++◌, map, Option}
+use Rattle.gv_lang.specs.declared.program.Program.{Program}
+use Rattle.gv_atomic.specs.declared.spec.Spec.{Spec}
+use Rattle.gv_termread.specs.declared.token.SeenToken.{SeenToken}
+use Rattle.gv_typing.specs.declared.term_fault.Fault.{Fault}
+use Rattle.gv_scriptnames.specs.Names.{names_in}
+use Rattle.gv_scriptnames.specs.declared.mention.Mention.{Mention}
+use Rattle.gv_scriptnames.specs.declared.outline.BookOutline.{BookOutline}
+use Rattle.gv_scriptnames.specs.declared.outline.PredOutline.{PredOutline}
+use Rattle.gv_scriptnames.specs.Mentions.{Mentions}
+use Rattle.gv_scriptnames.specs.Scopes.{Scope, outside}
+use Rattle.gv_scriptnames.specs.Found.{Found, twice, all_twice, of_mention, of_mentions, of_book, of_pred_outline}
+use Rattle.gv_scripts.specs.declared.names.NameSet.{NameSet}
+use Rattle.gv_scripts.specs.Least.{after}
+use Rattle.gv_scripts.specs.declared.scoped.Known.{Known}
+use Rattle.gv_scripts.specs.declared.scoped.Outside.{Outside}
+use Rattle.gv_scripts.specs.Tables.{Holds}
+use Rattle.gv_scripts.specs.Scoped.{IsKnown, IsOutside, Sees}
+
+-- names that are declared twice, behind those of two sets
+abbrev pub AreDeclared : List ℕ → NameSet → NameSet → List SeenToken → Option Fault → Option Fault → Type 0
+AreDeclared text outer own ts old new = (spec : Spec) (program : Program) (before names : List (List ℕ)) → Holds before outer → Holds names own
+    → new ≡ after old (all_twice text spec program (before ++ names) ts)
+
+-- a set has these names too
+abbrev pub AreAdded : List ℕ → NameSet → List SeenToken → NameSet → Type 0
+AreAdded text old ts new = (names : List (List ℕ)) → Holds names old → Holds (names ++ names_in text ts) new
+
+-- ---- names that are used
+
+abbrev pub IsMention : List ℕ → Known → Outside → NameSet → Mention → Option Fault → Option Fault → Type 0
+IsMention text k o cuts m old new = (spec : Spec) (program : Program) (sc : Scope) → Sees spec program sc k o cuts → new ≡ after old (of_mention text spec program sc m)
+
+abbrev pub AreMentions : List ℕ → Known → Outside → NameSet → Mentions → Option Fault → Option Fault → Type 0
+AreMentions text k o cuts ms old new = (spec : Spec) (program : Program) (sc : Scope) → Sees spec program sc k o cuts → new ≡ after old (of_mentions text spec program sc ms)
+
+-- ---- declarations
+
+-- the names of the books before, in a set
+abbrev pub IsBook : List ℕ → NameSet → BookOutline → Option Fault → Option Fault → Type 0
+IsBook text names b old new = (spec : Spec) (program : Program) (before : List BookOutline) → Holds (names_in text (map (λ c. c.name) before)) names
+    → new ≡ after old (of_book text spec program before b)
+
+-- the predicates before, in a table, with all books
+abbrev pub IsPred : List ℕ → Known → Outside → PredOutline → Option Fault → Option Fault → Type 0
+IsPred text k o p old new = (spec : Spec) (program : Program) (books : List BookOutline) (before : List PredOutline) → IsKnown spec program k → IsOutside (outside text books before) o
+    → new ≡ after old (of_pred_outline text spec program books before p)

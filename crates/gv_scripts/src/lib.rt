@@ -1,0 +1,13 @@
+//! The first fault of a script's names and counts.
+//!
+//! `least` keeps the least of the faults that were met, `words` tells words by their classes, `names` has sets and tables of names,
+//! and `scoped` what names stand for. `declared` and `mentions` note the faults of names that are declared and used.
+#![tactic(auto)]
+
+mod declared;
+mod least;
+mod mentions;
+mod names;
+mod preds;
+mod scoped;
+mod words;
