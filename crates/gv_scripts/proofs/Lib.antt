@@ -1,3 +1,4 @@
 pub mod Meeting
 pub mod Tables
 pub mod Declaring
+pub mod Naming

@@ -1,5 +1,5 @@
 -- Faults that are met one after another.
-use Rattle.std.proofs.Common.{◌≡◌, ℕ, ◌+◌, ◌<◌, ◌≤◌, List, [], ◌∷◌, ◌++◌, length, take, get_or, Option, refl, sym, ap, subst, ◌∙◌, arith, append_assoc, append-nil}
+use Rattle.std.proofs.Common.{◌≡◌, ℕ, ◌+◌, ◌<◌, ◌≤◌, List, [], ◌∷◌, ◌++◌, length, take, get_or, Result, Ok, Err, OnOk, Option, refl, sym, ap, subst, ◌∙◌, arith, append_assoc, append-nil}
 use Rattle.std.proofs.lemmas.List.{take_more, take_all, get_or_default}
 use Rattle.gv_typing.specs.declared.term_fault.Fault.{Fault}
 use Rattle.gv_scriptnames.specs.Found.{Found, in_each, in_all}
@@ -57,3 +57,7 @@ all_read of xs i d a b c l p q = all_noted of xs i (get_or xs i d) a b c l (get_
 -- one thing after another
 pub both_noted : (fs gs : Found) (a b c : Option Fault) → b ≡ after a fs → c ≡ after b gs → c ≡ after a (fs ++ gs)
 both_noted fs gs a b c p q = q ∙ ap (λ f. after f gs) p ∙ sym (after_both a fs gs)
+
+pub on_ok : {A E P Q : Type 0} (r : Result A E) → (P → Q) → OnOk r P → OnOk r Q
+on_ok (Ok x) f h = f h
+on_ok (Err e) f h = tt

@@ -4,13 +4,14 @@ use Rattle.gv_lang.specs.declared.program.Program.{Program}
 use Rattle.gv_atomic.specs.declared.spec.Spec.{Spec}
 use Rattle.gv_termread.specs.declared.token.SeenToken.{SeenToken}
 use Rattle.gv_typing.specs.declared.term_fault.Fault.{Fault}
-use Rattle.gv_scriptnames.specs.Names.{names_in}
+use Rattle.gv_scriptnames.specs.Names.{names_in, names_of}
 use Rattle.gv_scriptnames.specs.declared.mention.Mention.{Mention}
 use Rattle.gv_scriptnames.specs.declared.outline.BookOutline.{BookOutline}
+use Rattle.gv_scriptnames.specs.declared.outline.CaseOutline.{CaseOutline}
 use Rattle.gv_scriptnames.specs.declared.outline.PredOutline.{PredOutline}
 use Rattle.gv_scriptnames.specs.Mentions.{Mentions}
 use Rattle.gv_scriptnames.specs.Scopes.{Scope, outside}
-use Rattle.gv_scriptnames.specs.Found.{Found, twice, all_twice, of_mention, of_mentions, of_book, of_pred_outline}
+use Rattle.gv_scriptnames.specs.Found.{Found, twice, all_twice, of_mention, of_mentions, of_book, of_pred_outline, in_all, in_each}
 use Rattle.gv_scripts.specs.declared.names.NameSet.{NameSet}
 use Rattle.gv_scripts.specs.Least.{after}
 use Rattle.gv_scripts.specs.declared.scoped.Known.{Known}
@@ -46,3 +47,18 @@ IsBook text names b old new = (spec : Spec) (program : Program) (before : List B
 abbrev pub IsPred : List ℕ → Known → Outside → PredOutline → Option Fault → Option Fault → Type 0
 IsPred text k o p old new = (spec : Spec) (program : Program) (books : List BookOutline) (before : List PredOutline) → IsKnown spec program k → IsOutside (outside text books before) o
     → new ≡ after old (of_pred_outline text spec program books before p)
+
+-- the variables of cases, behind the names of parameters in a set
+abbrev pub AreCaseVars : List ℕ → NameSet → List CaseOutline → Option Fault → Option Fault → Type 0
+AreCaseVars text params cases old new = (spec : Spec) (program : Program) (names : List (List ℕ)) → Holds names params
+    → new ≡ after old (in_all (λ c. all_twice text spec program names (names_of c.vars)) cases)
+
+-- what stands in cases
+abbrev pub AreCaseItems : List ℕ → Known → Outside → NameSet → List CaseOutline → Option Fault → Option Fault → Type 0
+AreCaseItems text k o cuts cases old new = (spec : Spec) (program : Program) (sc : Scope) → Sees spec program sc k o cuts
+    → new ≡ after old (in_all (λ c. of_mentions text spec program sc c.items) cases)
+
+-- all predicates, from those before every script and the books' on
+abbrev pub ArePreds : List ℕ → Known → Outside → List PredOutline → Option Fault → Option Fault → Type 0
+ArePreds text k o preds old new = (spec : Spec) (program : Program) (books : List BookOutline) → IsKnown spec program k → IsOutside (outside text books []) o
+    → new ≡ after old (in_each (of_pred_outline text spec program books) [] preds)

@@ -4,6 +4,7 @@
 //! and `scoped` what names stand for. `declared` and `mentions` note the faults of names that are declared and used.
 #![tactic(auto)]
 
+mod books;
 mod declared;
 mod least;
 mod mentions;

@@ -7,7 +7,7 @@ use Rattle.gv_scriptnames.specs.Found.{twice, unless}
 use Rattle.gv_scripts.specs.Least.{after}
 use Rattle.gv_scripts.proofs.Meeting.{both_noted}
 use Rattle.gv_scripts.proofs.Declaring.{declared_one}
-use Rattle.gv_scripts.proofs.preds.note_book.Goals as goal
+use Rattle.gv_scripts.proofs.books.note_book.Goals as goal
 
 pub returns-clause-noted : goal.returns-clause-noted
 returns-clause-noted c = λ spec program before holds.

@@ -6,7 +6,7 @@ use Rattle.gv_scriptnames.specs.Found.{of_book}
 use Rattle.gv_scripts.specs.Tables.{Holds}
 use Rattle.gv_scripts.proofs.Meeting.{each_read, each_through}
 use Rattle.gv_scripts.proofs.Declaring.{named_read}
-use Rattle.gv_scripts.proofs.preds.note_books.Goals as goal
+use Rattle.gv_scripts.proofs.books.note_books.Goals as goal
 
 pub loop-book-preserved : goal.loop-book-preserved
 loop-book-preserved c =

@@ -5,7 +5,7 @@ use Rattle.gv_scriptnames.specs.Names.{names_in}
 use Rattle.gv_scriptnames.specs.Found.{in_each, of_book}
 use Rattle.gv_scripts.specs.Least.{after}
 use Rattle.gv_scripts.specs.Tables.{Holds}
-use Rattle.gv_scripts.proofs.preds.note_books.Given as goal
+use Rattle.gv_scripts.proofs.books.note_books.Given as goal
 
 abbrev pub invariant-loop-book : goal.invariant-loop-book
 invariant-loop-book l = record {
