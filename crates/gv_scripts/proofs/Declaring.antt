@@ -103,3 +103,7 @@ named_more text of xs i x l e =
 pub named_read : {T : Type 0} (text : List ℕ) (of : T → SeenToken) (xs : List T) (i : ℕ) (d : T) → i < length xs
     → names_in text (map of (take i xs)) ++ name_in text (of (get_or xs i d)) ∷ [] ≡ names_in text (map of (take (i + 1) xs))
 named_read text of xs i d l = named_more text of xs i (get_or xs i d) l (get_or_default xs i d (get_or xs i d) l)
+
+-- what a list of tokens gives past its end
+abbrev pub none_token : SeenToken
+none_token = record { class = 0; start = 0; end = 0; value = 0 }

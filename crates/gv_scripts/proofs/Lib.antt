@@ -2,3 +2,4 @@ pub mod Meeting
 pub mod Tables
 pub mod Declaring
 pub mod Naming
+pub mod Cutting

@@ -1,4 +1,5 @@
 pub mod Least
 pub mod Tables
+pub mod Procs
 pub mod Scoped
 pub mod Noted

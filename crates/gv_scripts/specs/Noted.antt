@@ -1,5 +1,6 @@
 -- What is noted of the parts of an outline.
 use Rattle.std.specs.Prelude.{◌≡◌, ℕ, List, [], ◌∷◌, ◌++◌, map, Option}
+use Rattle.gv_lang.specs.declared.program.Proc.{Proc}
 use Rattle.gv_lang.specs.declared.program.Program.{Program}
 use Rattle.gv_atomic.specs.declared.spec.Spec.{Spec}
 use Rattle.gv_termread.specs.declared.token.SeenToken.{SeenToken}
@@ -9,14 +10,20 @@ use Rattle.gv_scriptnames.specs.declared.mention.Mention.{Mention}
 use Rattle.gv_scriptnames.specs.declared.outline.BookOutline.{BookOutline}
 use Rattle.gv_scriptnames.specs.declared.outline.CaseOutline.{CaseOutline}
 use Rattle.gv_scriptnames.specs.declared.outline.PredOutline.{PredOutline}
+use Rattle.gv_scriptnames.specs.declared.outline.CutOutline.{CutOutline}
+use Rattle.gv_scriptnames.specs.declared.outline.BodyOutline.{BodyOutline}
+use Rattle.gv_scriptnames.specs.declared.outline.OpOutline.{OpOutline}
+use Rattle.gv_scriptnames.specs.declared.outline.ProcOutline.{ProcOutline}
 use Rattle.gv_scriptnames.specs.Mentions.{Mentions}
 use Rattle.gv_scriptnames.specs.Scopes.{Scope, outside}
-use Rattle.gv_scriptnames.specs.Found.{Found, twice, all_twice, of_mention, of_mentions, of_book, of_pred_outline, in_all, in_each}
+use Rattle.gv_scriptnames.specs.Found.{Found, twice, all_twice, of_mention, of_mentions, of_book, of_pred_outline, of_locals, of_cut, of_body, of_op, of_own, of_proc, in_all, in_each}
 use Rattle.gv_scripts.specs.declared.names.NameSet.{NameSet}
 use Rattle.gv_scripts.specs.Least.{after}
 use Rattle.gv_scripts.specs.declared.scoped.Known.{Known}
 use Rattle.gv_scripts.specs.declared.scoped.Outside.{Outside}
+use Rattle.gv_scripts.specs.declared.scoped.ProcFacts.{ProcFacts}
 use Rattle.gv_scripts.specs.Tables.{Holds}
+use Rattle.gv_scripts.specs.Procs.{AreFacts}
 use Rattle.gv_scripts.specs.Scoped.{IsKnown, IsOutside, Sees}
 
 -- names that are declared twice, behind those of two sets
@@ -62,3 +69,44 @@ AreCaseItems text k o cuts cases old new = (spec : Spec) (program : Program) (sc
 abbrev pub ArePreds : List ℕ → Known → Outside → List PredOutline → Option Fault → Option Fault → Type 0
 ArePreds text k o preds old new = (spec : Spec) (program : Program) (books : List BookOutline) → IsKnown spec program k → IsOutside (outside text books []) o
     → new ≡ after old (in_each (of_pred_outline text spec program books) [] preds)
+
+-- ---- blocks with their cuts
+
+-- the locals that a cut names
+abbrev pub AreLocals : List ℕ → Option ProcFacts → List SeenToken → Option Fault → Option Fault → Type 0
+AreLocals text facts ts old new = (spec : Spec) (program : Program) (proc : Option Proc) → AreFacts proc facts → new ≡ after old (of_locals text spec program ts proc)
+
+-- the names of the cuts before, in a set
+abbrev pub IsCut : List ℕ → Known → Outside → NameSet → Option ProcFacts → NameSet → CutOutline → Option Fault → Option Fault → Type 0
+IsCut text k o cuts facts names cut old new = (spec : Spec) (program : Program) (sc : Scope) (proc : Option Proc) (before : List CutOutline) → Sees spec program sc k o cuts → AreFacts proc facts
+    → Holds (names_in text (map (λ d. d.name) before)) names → new ≡ after old (of_cut text spec program sc proc before cut)
+
+abbrev pub AreCuts : List ℕ → Known → Outside → NameSet → Option ProcFacts → List CutOutline → Option Fault → Option Fault → Type 0
+AreCuts text k o cuts facts all old new = (spec : Spec) (program : Program) (sc : Scope) (proc : Option Proc) → Sees spec program sc k o cuts → AreFacts proc facts
+    → new ≡ after old (in_each (of_cut text spec program sc proc) [] all)
+
+abbrev pub IsBody : List ℕ → Known → Outside → Option ProcFacts → BodyOutline → Option Fault → Option Fault → Type 0
+IsBody text k o facts body old new = (spec : Spec) (program : Program) (sc : Scope) (proc : Option Proc) → IsKnown spec program k → IsOutside sc o → AreFacts proc facts
+    → new ≡ after old (of_body text spec program sc proc body)
+
+-- ---- operations and procedures, behind those whose names are in a set
+
+abbrev pub IsOp : List ℕ → Known → Outside → NameSet → OpOutline → Option Fault → Option Fault → Type 0
+IsOp text k o names op old new = (spec : Spec) (program : Program) (sc : Scope) (before : List OpOutline) → IsKnown spec program k → IsOutside sc o
+    → Holds (names_in text (map (λ p. p.name) before)) names → new ≡ after old (of_op text spec program sc before op)
+
+abbrev pub AreOps : List ℕ → Known → Outside → List OpOutline → Option Fault → Option Fault → Type 0
+AreOps text k o ops old new = (spec : Spec) (program : Program) (sc : Scope) → IsKnown spec program k → IsOutside sc o
+    → new ≡ after old (in_each (of_op text spec program sc) [] ops)
+
+abbrev pub IsProc : List ℕ → Known → Outside → NameSet → ProcOutline → Option Fault → Option Fault → Type 0
+IsProc text k o names r old new = (spec : Spec) (program : Program) (sc : Scope) (before : List ProcOutline) → IsKnown spec program k → IsOutside sc o → sc.cuts ≡ []
+    → Holds (names_in text (map (λ q. q.name) before)) names → new ≡ after old (of_proc text spec program sc before r)
+
+abbrev pub AreProcs : List ℕ → Known → Outside → List ProcOutline → Option Fault → Option Fault → Type 0
+AreProcs text k o procs old new = (spec : Spec) (program : Program) (sc : Scope) → IsKnown spec program k → IsOutside sc o → sc.cuts ≡ []
+    → new ≡ after old (in_each (of_proc text spec program sc) [] procs)
+
+-- the instance that a procedure owns
+abbrev pub IsOwn : List ℕ → Known → Outside → NameSet → Option Mention → Option Fault → Option Fault → Type 0
+IsOwn text k o cuts own old new = (spec : Spec) (program : Program) (sc : Scope) → Sees spec program sc k o cuts → new ≡ after old (of_own text spec program sc own)

@@ -1,15 +1,17 @@
 -- What tables and sets say of a specification, of a program and of the predicates, books and cuts that may be named.
-use Rattle.std.specs.Prelude.{◌≡◌, ℕ, Bool, false, List, [], ◌∷◌, length, Option, option_map}
+use Rattle.std.specs.Prelude.{◌≡◌, ℕ, Bool, false, List, [], ◌∷◌, length, Option, option_map, slice_get}
+use Rattle.std.specs.Option.{option_and_then}
 use Rattle.gv_terms.specs.declared.sort.Sort.{Sort}
 use Rattle.gv_terms.specs.declared.sort.Sort.TheVariants.{Ref}
 use Rattle.gv_terms.specs.Values.{is_sort}
 use Rattle.gv_lang.specs.declared.program.Program.{Program}
 use Rattle.gv_atomic.specs.declared.spec.Spec.{Spec}
-use Rattle.gv_scriptnames.specs.Scopes.{Shape, Scope, is_cell, is_field, op_named, pred_named}
+use Rattle.gv_scriptnames.specs.Scopes.{Shape, Scope, is_cell, is_field, op_named, pred_named, proc_named, proc_of_op}
 use Rattle.gv_scripts.specs.declared.names.NameSet.{NameSet}
 use Rattle.gv_scripts.specs.declared.scoped.Params.{Params}
 use Rattle.gv_scripts.specs.declared.scoped.Known.{Known}
 use Rattle.gv_scripts.specs.declared.scoped.Outside.{Outside}
+use Rattle.gv_scripts.specs.Procs.{AreFacts}
 use Rattle.gv_scripts.specs.Tables.{has, Holds, entry}
 
 -- one parameter, a reference
@@ -25,6 +27,9 @@ pub record IsKnown (spec : Spec) (program : Program) (k : Known) : Type 0 where
   pub cells : (n : List ℕ) → has k.cells n ≡ is_cell program n
   pub fields : (n : List ℕ) → has k.fields n ≡ is_field spec n
   pub ops : (n : List ℕ) → entry k.ops n ≡ option_map (λ o. length o.params) (op_named spec n)
+  pub facts : (i : ℕ) → AreFacts (slice_get program.procs i) (slice_get k.facts i)
+  pub procs : (n : List ℕ) → proc_named program n ≡ option_and_then (slice_get program.procs) (entry k.procs n)
+  pub methods : (n : List ℕ) → proc_of_op program n ≡ option_and_then (slice_get program.procs) (entry k.methods n)
 
 -- the predicates and the books of a scope
 pub record IsOutside (sc : Scope) (o : Outside) : Type 0 where

@@ -4,11 +4,14 @@
 //! and `scoped` what names stand for. `declared` and `mentions` note the faults of names that are declared and used.
 #![tactic(auto)]
 
+mod bodies;
 mod books;
 mod declared;
 mod least;
 mod mentions;
 mod names;
+mod ops;
 mod preds;
+mod procs;
 mod scoped;
 mod words;
