@@ -3,3 +3,4 @@ pub mod Tables
 pub mod Declaring
 pub mod Naming
 pub mod Cutting
+pub mod Lookups
