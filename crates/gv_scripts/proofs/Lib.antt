@@ -4,3 +4,4 @@ pub mod Declaring
 pub mod Naming
 pub mod Cutting
 pub mod Lookups
+pub mod Sizes

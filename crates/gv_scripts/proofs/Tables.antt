@@ -12,7 +12,7 @@ use Rattle.gv_scripts.specs.Tables.{has, Holds, entry, kept, IsTable}
 pub eq_turned : (a b : List ℕ) → bytes_eq a b ≡ bytes_eq b a
 eq_turned a b = let d = bytes_eq-Decides b a in same_from_decides (bytes_eq a b) (bytes_eq b a) (bytes_eq-Decides a b) (λ e. sym (d.0 e), λ p. d.1 (sym p))
 
-any_last : {T : Type 0} (p : T → Bool) (xs : List T) (y : T) → list_any p (xs ++ y ∷ []) ≡ (list_any p xs || p y)
+pub any_last : {T : Type 0} (p : T → Bool) (xs : List T) (y : T) → list_any p (xs ++ y ∷ []) ≡ (list_any p xs || p y)
 any_last p [] y = last (p y)
   where
     last : (b : Bool) → (b || false) ≡ b
@@ -25,14 +25,17 @@ any_last p (x ∷ xs) y = step (p x) (any_last p xs y)
     step false h = h
 
 -- a name is in a set to which one was added
-pub holds_more : (names : List (List ℕ)) (name : List ℕ) (old new : NameSet) → ((n : List ℕ) → has new n ≡ cond (bytes_eq name n) true (has old n)) → Holds names old → Holds (names ++ name ∷ []) new
-holds_more names name old new more was n = more n ∙ step (bytes_eq name n) (has old n) ∙ ap (λ b. b || bytes_eq name n) (was n) ∙ ap (λ b. is_borne names n || b) (eq_turned name n) ∙ sym (any_last (bytes_eq n) names name)
+pub was_or_is : (n m : List ℕ) (old : Bool) → cond (bytes_eq n m) true old ≡ (old || bytes_eq m n)
+was_or_is n m old = step (bytes_eq n m) old ∙ ap (λ b. old || b) (eq_turned n m)
   where
     step : (b o : Bool) → cond b true o ≡ (o || b)
     step true true = refl
     step true false = refl
     step false true = refl
     step false false = refl
+
+pub holds_more : (names : List (List ℕ)) (name : List ℕ) (old new : NameSet) → ((n : List ℕ) → has new n ≡ cond (bytes_eq name n) true (has old n)) → Holds names old → Holds (names ++ name ∷ []) new
+holds_more names name old new more was n = more n ∙ was_or_is name n (has old n) ∙ ap (λ b. b || bytes_eq n name) (was n) ∙ sym (any_last (bytes_eq n) names name)
 
 -- ---- tables
 
@@ -55,3 +58,15 @@ pub table_more : {T V : Type 0} (name_of : T → List ℕ) (of : T → V) (items
 table_more {T} {V} name_of of items x name value old new p q more was n =
     more n ∙ ap (λ o. kept o (bytes_eq name n) value) (was n) ∙ ap (λ v. kept (option_map of (named name_of items n)) (bytes_eq name n) v) q
     ∙ ap (λ m. kept (option_map of (named name_of items n)) (bytes_eq m n) (of x)) p ∙ sym (find_last (λ y. bytes_eq (name_of y) n) items x V of)
+
+pub found_last : {T : Type 0} (p : T → Bool) (xs : List T) (y : T) → find p (xs ++ y ∷ []) ≡ kept (find p xs) (p y) y
+found_last p [] y = last (p y)
+  where
+    last : (b : Bool) → cond b (Some y) None ≡ kept None b y
+    last true = refl
+    last false = refl
+found_last p (x ∷ xs) y = step (p x) (found_last p xs y)
+  where
+    step : (b : Bool) → find p (xs ++ y ∷ []) ≡ kept (find p xs) (p y) y → cond b (Some x) (find p (xs ++ y ∷ [])) ≡ kept (cond b (Some x) (find p xs)) (p y) y
+    step true h = refl
+    step false h = h

@@ -1,13 +1,15 @@
 -- What tables and sets say of a specification, of a program and of the predicates, books and cuts that may be named.
-use Rattle.std.specs.Prelude.{◌≡◌, ℕ, Bool, false, List, [], ◌∷◌, length, Option, option_map, slice_get}
+use Rattle.std.specs.Prelude.{◌≡◌, ℕ, Bool, false, List, [], ◌∷◌, length, Option, Some, None, option_map, slice_get}
 use Rattle.std.specs.Option.{option_and_then}
 use Rattle.gv_terms.specs.declared.sort.Sort.{Sort}
 use Rattle.gv_terms.specs.declared.sort.Sort.TheVariants.{Ref}
 use Rattle.gv_terms.specs.Values.{is_sort}
+use Rattle.gv_lang.specs.declared.program.Proc.{Proc}
 use Rattle.gv_lang.specs.declared.program.Program.{Program}
 use Rattle.gv_atomic.specs.declared.spec.Spec.{Spec}
-use Rattle.gv_scriptnames.specs.Scopes.{Shape, Scope, is_cell, is_field, op_named, pred_named, proc_named, proc_of_op}
+use Rattle.gv_scriptnames.specs.Scopes.{Shape, named, Scope, is_cell, is_field, op_named, pred_named, proc_named, proc_of_op}
 use Rattle.gv_scripts.specs.declared.names.NameSet.{NameSet}
+use Rattle.gv_scripts.specs.declared.names.Table.{Table}
 use Rattle.gv_scripts.specs.declared.scoped.Params.{Params}
 use Rattle.gv_scripts.specs.declared.scoped.Known.{Known}
 use Rattle.gv_scripts.specs.declared.scoped.Outside.{Outside}
@@ -41,3 +43,16 @@ pub record Sees (spec : Spec) (program : Program) (sc : Scope) (k : Known) (o : 
   pub known : IsKnown spec program k
   pub outside : IsOutside sc o
   pub beside : Holds sc.cuts cuts
+
+-- ---- places of procedures
+
+-- the place is one of the procedure, or there is neither
+abbrev pub IsPlace : List Proc → Option Proc → Option ℕ → Type 0
+IsPlace procs None None = Unit {0}
+IsPlace procs None (Some i) = ⊥
+IsPlace procs (Some p) None = ⊥
+IsPlace procs (Some p) (Some i) = slice_get procs i ≡ Some p
+
+-- a table has the places of some of the procedures by their names
+abbrev pub ArePlaces : List Proc → List Proc → Table ℕ → Type 0
+ArePlaces procs some t = (n : List ℕ) → IsPlace procs (named (λ p. p.name) some n) (entry t n)

@@ -6,9 +6,12 @@
 
 mod bodies;
 mod books;
+mod counting;
 mod declared;
+mod known;
 mod least;
 mod mentions;
+mod methods;
 mod names;
 mod ops;
 mod preds;

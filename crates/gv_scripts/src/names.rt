@@ -1,6 +1,6 @@
 //! Sets and tables of names.
 
-ghost use Rattle.std.specs.Prelude.{◌≡◌, ◌∷◌, ◌++◌, ℕ, List as Seq, [], None, IfOk, OnOk};
+ghost use Rattle.std.specs.Prelude.{◌≡◌, ◌||◌, ◌∷◌, ◌++◌, ℕ, List as Seq, [], None, IfOk, OnOk};
 ghost use Rattle.std.specs.Str.{bytes_eq};
 ghost use Rattle.gv_scriptnames.specs.Names.{name_in};
 ghost use Rattle.gv_scripts.specs.Tables.{Holds, entry, has, kept};
@@ -42,7 +42,8 @@ impl NameSet {
 
     /// Adds a name.
     pub fn add(&mut self, name: Name) -> Result<(), NoMemory>
-        ensures { OnOk result ((names : Seq (Seq ℕ)) → Holds names self.old → Holds (names ++ name ∷ []) self.new) }
+        ensures holds { OnOk result ((names : Seq (Seq ℕ)) → Holds names self.old → Holds (names ++ name ∷ []) self.new) }
+        ensures one { OnOk result ((n : Seq ℕ) → has self.new n ≡ (has self.old n || bytes_eq n name)) }
     {
         self.names.insert(name)?;
         Ok(())

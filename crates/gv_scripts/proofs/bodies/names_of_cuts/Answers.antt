@@ -15,7 +15,7 @@ loop-cut-preserved c =
     let lt : i < length all = omega arith in
     let before = names_in text (map (λ (d : CutOutline). d.name) (take i all)) in
     subst (λ (ns : List (List ℕ)). Holds ns c.add.new.self) (ap (λ n. before ++ n ∷ []) c.in_ok-name_of.ensures ∙ named_more text (λ (d : CutOutline). d.name) all i cut lt c.cut-item.is)
-    (c.in_ok-add.ensures before c.loop-cut.invariant)
+    (c.in_ok-add.ensures.holds before c.loop-cut.invariant)
 
 pub returns : goal.returns
 returns c =
