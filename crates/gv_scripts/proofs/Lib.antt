@@ -5,3 +5,4 @@ pub mod Naming
 pub mod Cutting
 pub mod Lookups
 pub mod Sizes
+pub mod Firsts

@@ -61,3 +61,9 @@ both_noted fs gs a b c p q = q ∙ ap (λ f. after f gs) p ∙ sym (after_both a
 pub on_ok : {A E P Q : Type 0} (r : Result A E) → (P → Q) → OnOk r P → OnOk r Q
 on_ok (Ok x) f h = f h
 on_ok (Err e) f h = tt
+
+-- four things, and then more
+pub four_and_more : (a : Option Fault) (fs gs hs is more : Found) → after (after a (fs ++ (gs ++ (hs ++ is)))) more ≡ after a (fs ++ (gs ++ (hs ++ (is ++ more))))
+four_and_more a fs gs hs is more =
+    sym (after_both a (fs ++ (gs ++ (hs ++ is))) more)
+    ∙ ap (after a) (append_assoc fs (gs ++ (hs ++ is)) more ∙ ap (λ xs. fs ++ xs) (append_assoc gs (hs ++ is) more ∙ ap (λ xs. gs ++ xs) (append_assoc hs is more)))

@@ -3,3 +3,4 @@ pub mod Tables
 pub mod Procs
 pub mod Scoped
 pub mod Noted
+pub mod First

@@ -5,7 +5,7 @@ use Rattle.gv_lang.specs.declared.program.Program.{Program}
 use Rattle.gv_atomic.specs.declared.spec.Spec.{Spec}
 use Rattle.gv_termread.specs.declared.token.SeenToken.{SeenToken}
 use Rattle.gv_typing.specs.declared.term_fault.Fault.{Fault}
-use Rattle.gv_scriptnames.specs.Names.{names_in, names_of}
+use Rattle.gv_scriptnames.specs.Names.{name_in, names_in, names_of}
 use Rattle.gv_scriptnames.specs.declared.mention.Mention.{Mention}
 use Rattle.gv_scriptnames.specs.declared.outline.BookOutline.{BookOutline}
 use Rattle.gv_scriptnames.specs.declared.outline.CaseOutline.{CaseOutline}
@@ -14,9 +14,10 @@ use Rattle.gv_scriptnames.specs.declared.outline.CutOutline.{CutOutline}
 use Rattle.gv_scriptnames.specs.declared.outline.BodyOutline.{BodyOutline}
 use Rattle.gv_scriptnames.specs.declared.outline.OpOutline.{OpOutline}
 use Rattle.gv_scriptnames.specs.declared.outline.ProcOutline.{ProcOutline}
+use Rattle.gv_scriptnames.specs.declared.outline.Outline.{Outline}
 use Rattle.gv_scriptnames.specs.Mentions.{Mentions}
-use Rattle.gv_scriptnames.specs.Scopes.{Scope, outside}
-use Rattle.gv_scriptnames.specs.Found.{Found, twice, all_twice, of_mention, of_mentions, of_book, of_pred_outline, of_locals, of_cut, of_body, of_op, of_own, of_proc, in_all, in_each}
+use Rattle.gv_scriptnames.specs.Scopes.{Scope, outside, pred_named, recovery}
+use Rattle.gv_scriptnames.specs.Found.{Found, twice, all_twice, of_mention, of_mentions, of_book, of_pred_outline, of_crash, of_root, of_locals, of_cut, of_body, of_op, of_own, of_proc, in_all, in_each}
 use Rattle.gv_scripts.specs.declared.names.NameSet.{NameSet}
 use Rattle.gv_scripts.specs.Least.{after}
 use Rattle.gv_scripts.specs.declared.scoped.Known.{Known}
@@ -110,3 +111,21 @@ AreProcs text k o procs old new = (spec : Spec) (program : Program) (sc : Scope)
 -- the instance that a procedure owns
 abbrev pub IsOwn : List ℕ → Known → Outside → NameSet → Option Mention → Option Fault → Option Fault → Type 0
 IsOwn text k o cuts own old new = (spec : Spec) (program : Program) (sc : Scope) → Sees spec program sc k o cuts → new ≡ after old (of_own text spec program sc own)
+
+-- ---- the whole, in two parts
+
+-- what is declared before the blocks
+abbrev pub AreDeclarations : List ℕ → Known → Outline → Option Fault → Option Fault → Type 0
+AreDeclarations text k s old new = (spec : Spec) (program : Program) → IsKnown spec program k → let sc = outside text s.books s.preds in
+    new ≡ after old (in_each (of_book text spec program) [] s.books
+    ++ (in_each (of_pred_outline text spec program s.books) [] s.preds
+    ++ (of_crash text spec program s.crash (pred_named sc (name_in text s.crash))
+    ++ of_root text spec program s.root (pred_named sc (name_in text s.root)))))
+
+-- the blocks, and what stands with them
+abbrev pub AreBlocks : List ℕ → Program → Known → Outside → Outline → Option Fault → Option Fault → Type 0
+AreBlocks text program k o s old new = (spec : Spec) (sc : Scope) → IsKnown spec program k → IsOutside sc o → sc.cuts ≡ []
+    → new ≡ after old (of_mentions text spec program sc s.init
+    ++ (of_body text spec program sc (recovery program) s.recover
+    ++ (in_each (of_op text spec program sc) [] s.ops
+    ++ in_each (of_proc text spec program sc) [] s.procs)))

@@ -14,7 +14,12 @@ mod mentions;
 mod methods;
 mod names;
 mod ops;
+mod outline;
+mod outside;
 mod preds;
 mod procs;
 mod scoped;
 mod words;
+
+pub use gv_typing::Fault;
+pub use outline::first_fault;
