@@ -1,6 +1,0 @@
-use Rattle.std.proofs.Common.{map, take}
-use Rattle.gv_scripts.specs.Tables.{Holds}
-use Rattle.gv_scripts.proofs.known.fields_of.Given as goal
-
-abbrev pub invariant-loop-field : goal.invariant-loop-field
-invariant-loop-field l = Holds (map (λ x. x.name) (take l.field-index l.fields)) l.names

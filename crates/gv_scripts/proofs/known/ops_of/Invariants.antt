@@ -1,6 +1,0 @@
-use Rattle.std.proofs.Common.{length, take}
-use Rattle.gv_scripts.specs.Tables.{IsTable}
-use Rattle.gv_scripts.proofs.known.ops_of.Given as goal
-
-abbrev pub invariant-loop-op : goal.invariant-loop-op
-invariant-loop-op l = IsTable (λ o. o.name) (λ o. length o.params) (take l.op-index l.ops) l.table

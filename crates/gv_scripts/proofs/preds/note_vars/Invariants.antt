@@ -1,6 +1,0 @@
-use Rattle.std.proofs.Common.{take}
-use Rattle.gv_scripts.specs.Noted.{AreCaseVars}
-use Rattle.gv_scripts.proofs.preds.note_vars.Given as goal
-
-abbrev pub invariant-loop-case : goal.invariant-loop-case
-invariant-loop-case l = AreCaseVars l.text l.params (take l.case-index l.cases) l.fn.first l.first
