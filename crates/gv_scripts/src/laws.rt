@@ -1,0 +1,9 @@
+//! What is so of every text. The function does nothing: its contract is the law.
+
+ghost use Rattle.gv_scripts.specs.Reading.{AreReadOnce};
+
+/// A text spells one typed script at most, or is refused at one place by one code, and not both, for a specification and a program.
+#[tactic(auto, using(crate::proofs::Decided::all_read_once))]
+pub fn texts_spell_one_script()
+    ensures { AreReadOnce }
+{}

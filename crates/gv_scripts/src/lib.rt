@@ -1,0 +1,13 @@
+//! Proof scripts from their texts, with names, types and counts tested.
+//!
+//! gv_scriptparse gives the tree of a text, gv_scriptnodes its outline and gv_scriptfaults the first fault of that. `script` has what
+//! is read, `reading` reads it, and `laws` says what is so of every text.
+#![tactic(auto)]
+
+mod laws;
+mod reading;
+mod script;
+
+pub use laws::texts_spell_one_script;
+pub use reading::read_script;
+pub use script::Script;
