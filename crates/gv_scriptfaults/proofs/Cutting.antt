@@ -1,19 +1,15 @@
 -- Locals of cuts, and the steps of what is noted of a cut.
-use Rattle.std.proofs.Common.{◌≡◌, ℕ, ◌+◌, ◌<◌, ◌≤◌, List, [], length, take, get_or, Option, Some, None, refl, sym, ap, subst, ◌∙◌}
+use Rattle.std.proofs.Common.{◌≡◌, ℕ, ◌+◌, ◌<◌, ◌≤◌, List, [], length, take, get_or, Option, Some, None, refl, ap, subst, ◌∙◌}
 use Rattle.std.proofs.lemmas.List.{take_all}
 use Rattle.gv_base.specs.declared.answers.Code.TheVariants.{Undeclared}
-use Rattle.gv_lang.specs.declared.program.Proc.{Proc}
-use Rattle.gv_lang.specs.declared.program.Program.{Program}
-use Rattle.gv_atomic.specs.declared.spec.Spec.{Spec}
 use Rattle.gv_termread.specs.declared.token.SeenToken.{SeenToken}
 use Rattle.gv_typing.specs.declared.term_fault.Fault.{Fault}
 use Rattle.gv_scriptnames.specs.Names.{name_in}
 use Rattle.gv_scriptnames.specs.Scopes.{is_local}
-use Rattle.gv_scriptnames.specs.Found.{unless, of_locals}
+use Rattle.gv_scriptnames.specs.Found.{unless}
 use Rattle.gv_scriptfaults.specs.declared.scoped.ProcFacts.{ProcFacts}
 use Rattle.gv_scriptfaults.specs.Least.{after}
 use Rattle.gv_scriptfaults.specs.Tables.{has}
-use Rattle.gv_scriptfaults.specs.Procs.{AreFacts}
 use Rattle.gv_scriptfaults.specs.Noted.{AreLocals}
 use Rattle.gv_scriptfaults.proofs.Meeting.{all_read}
 

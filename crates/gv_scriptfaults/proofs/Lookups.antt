@@ -8,7 +8,7 @@ use Rattle.gv_lang.specs.declared.program.Proc.{Proc}
 use Rattle.gv_lang.specs.declared.program.Program.{Program}
 use Rattle.gv_atomic.specs.declared.spec.Spec.{Spec}
 use Rattle.gv_termread.specs.declared.token.SeenToken.{SeenToken}
-use Rattle.gv_scriptnames.specs.Scopes.{named, proc_named, proc_of_op, op_named}
+use Rattle.gv_scriptnames.specs.Scopes.{named, proc_named, proc_of_op}
 use Rattle.gv_scriptnames.specs.Found.{unless, if_none}
 use Rattle.gv_scriptfaults.specs.declared.names.Table.{Table}
 use Rattle.gv_scriptfaults.specs.declared.scoped.Known.{Known}

@@ -1,5 +1,5 @@
 -- Predicates that may be named, one after another.
-use Rattle.std.proofs.Common.{◌≡◌, ℕ, List, [], ◌∷◌, ◌++◌, map, refl, sym, ap, subst, ◌∙◌, append_assoc, append-nil}
+use Rattle.std.proofs.Common.{◌≡◌, ℕ, List, [], ◌∷◌, ◌++◌, map, sym, ap, subst, ◌∙◌, append_assoc, append-nil}
 use Rattle.std.proofs.lemmas.List.{map-append}
 use Rattle.std.specs.Str.{bytes_eq}
 use Rattle.gv_lang.specs.declared.program.Program.{Program}
@@ -8,9 +8,8 @@ use Rattle.gv_termread.specs.declared.token.SeenToken.{SeenToken}
 use Rattle.gv_scriptnames.specs.declared.outline.BookOutline.{BookOutline}
 use Rattle.gv_scriptnames.specs.declared.outline.PredOutline.{PredOutline}
 use Rattle.gv_scriptnames.specs.Names.{name_in}
-use Rattle.gv_scriptnames.specs.Scopes.{Shape, shape_of, book_lease, block_lease, shapes_of, outside, pred_named}
+use Rattle.gv_scriptnames.specs.Scopes.{Shape, shape_of, book_lease, block_lease, shapes_of, outside}
 use Rattle.gv_scriptnames.specs.Found.{all_twice}
-use Rattle.gv_scriptfaults.specs.declared.names.Table.{Table}
 use Rattle.gv_scriptfaults.specs.declared.scoped.Params.{Params}
 use Rattle.gv_scriptfaults.specs.declared.scoped.Outside.{Outside}
 use Rattle.gv_scriptfaults.specs.Tables.{has, entry, kept, IsTable}

@@ -1,10 +1,10 @@
 -- Tables to which names are added.
-use Rattle.std.proofs.Common.{◌≡◌, ℕ, Bool, true, false, ◌||◌, cond, List, [], ◌∷◌, ◌++◌, Option, Some, None, option_map, refl, sym, ap, ◌∙◌}
+use Rattle.std.proofs.Common.{◌≡◌, ℕ, Bool, true, false, ◌||◌, cond, List, [], ◌∷◌, ◌++◌, Some, None, option_map, refl, sym, ap, ◌∙◌}
 use Rattle.std.specs.List.{list_any, find}
 use Rattle.std.specs.Str.{bytes_eq}
 use Rattle.std.proofs.lemmas.Slice.Eq.{bytes_eq-Decides}
 use Rattle.std.proofs.lemmas.Bool.Decides.{same_from_decides}
-use Rattle.gv_scriptnames.specs.Scopes.{is_borne, named}
+use Rattle.gv_scriptnames.specs.Scopes.{named}
 use Rattle.gv_scriptfaults.specs.declared.names.NameSet.{NameSet}
 use Rattle.gv_scriptfaults.specs.declared.names.Table.{Table}
 use Rattle.gv_scriptfaults.specs.Tables.{has, Holds, entry, kept, IsTable}

@@ -1,5 +1,5 @@
 -- The least of the faults that were met: at most one is kept.
-use Rattle.std.specs.Prelude.{ℕ, Bool, ◌&&◌, ◌||◌, nat_lt, nat_eq, if◌then◌else◌, List, [], ◌∷◌, Option, Some, None}
+use Rattle.std.specs.Prelude.{ℕ, Bool, ◌&&◌, ◌||◌, nat_lt, nat_eq, if◌then◌else◌, [], ◌∷◌, Option, Some, None}
 use Rattle.gv_base.specs.Codes.{code_number}
 use Rattle.gv_base.specs.declared.answers.Code.{Code}
 use Rattle.gv_typing.specs.declared.term_fault.Fault.{Fault}

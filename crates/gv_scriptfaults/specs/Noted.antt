@@ -1,5 +1,5 @@
 -- What is noted of the parts of an outline.
-use Rattle.std.specs.Prelude.{◌≡◌, ℕ, List, [], ◌∷◌, ◌++◌, map, Option}
+use Rattle.std.specs.Prelude.{◌≡◌, ℕ, List, [], ◌++◌, map, Option}
 use Rattle.gv_lang.specs.declared.program.Proc.{Proc}
 use Rattle.gv_lang.specs.declared.program.Program.{Program}
 use Rattle.gv_atomic.specs.declared.spec.Spec.{Spec}
@@ -17,7 +17,7 @@ use Rattle.gv_scriptnames.specs.declared.outline.ProcOutline.{ProcOutline}
 use Rattle.gv_scriptnames.specs.declared.outline.Outline.{Outline}
 use Rattle.gv_scriptnames.specs.Mentions.{Mentions}
 use Rattle.gv_scriptnames.specs.Scopes.{Scope, outside, pred_named, recovery}
-use Rattle.gv_scriptnames.specs.Found.{Found, twice, all_twice, of_mention, of_mentions, of_book, of_pred_outline, of_crash, of_root, of_locals, of_cut, of_body, of_op, of_own, of_proc, in_all, in_each}
+use Rattle.gv_scriptnames.specs.Found.{all_twice, of_mention, of_mentions, of_book, of_pred_outline, of_crash, of_root, of_locals, of_cut, of_body, of_op, of_own, of_proc, in_all, in_each}
 use Rattle.gv_scriptfaults.specs.declared.names.NameSet.{NameSet}
 use Rattle.gv_scriptfaults.specs.Least.{after}
 use Rattle.gv_scriptfaults.specs.declared.scoped.Known.{Known}

@@ -1,5 +1,5 @@
 -- What is known of procedures.
-use Rattle.std.specs.Prelude.{◌≡◌, ◌^◌, ◌-◌, ℕ, length, map, min, Option, Some, None}
+use Rattle.std.specs.Prelude.{◌≡◌, ◌^◌, ◌-◌, length, map, min, Option, Some, None}
 use Rattle.gv_lang.specs.declared.program.Proc.{Proc}
 use Rattle.gv_lang.specs.Plain.{body_of}
 use Rattle.gv_lang.specs.Graph.{size}

@@ -1,4 +1,4 @@
-use Rattle.std.proofs.Common.{◌≡◌, [], ◌++◌, List, map, ap, subst, ◌∙◌}
+use Rattle.std.proofs.Common.{◌≡◌, [], List, map, ap, subst, ◌∙◌}
 use Rattle.gv_scriptnames.specs.declared.outline.CutOutline.{CutOutline}
 use Rattle.gv_scriptnames.specs.Mentions.{Mentions}
 use Rattle.gv_scriptnames.specs.Names.{names_in}

@@ -1,5 +1,4 @@
 use Rattle.std.proofs.Common.{◌≡◌, [], ◌++◌, List, map, ap, subst, ◌∙◌}
-use Rattle.std.specs.Option.{option_copied}
 use Rattle.gv_termread.specs.declared.token.SeenToken.{SeenToken}
 use Rattle.gv_scriptsyntax.specs.declared.tree.Par.{Par}
 use Rattle.gv_scriptnames.specs.declared.outline.CutOutline.{CutOutline}
@@ -7,7 +6,6 @@ use Rattle.gv_scriptnames.specs.Mentions.{Mentions}
 use Rattle.gv_scriptnames.specs.Names.{names_in, names_of}
 use Rattle.gv_scriptnames.specs.Found.{twice, all_twice, of_point, of_locals, of_mentions}
 use Rattle.gv_scriptfaults.specs.Least.{after}
-use Rattle.gv_scriptfaults.specs.Noted.{AreLocals}
 use Rattle.gv_scriptfaults.specs.Tables.{Holds}
 use Rattle.gv_scriptfaults.proofs.Meeting.{both_noted, on_ok}
 use Rattle.gv_scriptfaults.proofs.Declaring.{declared_one}

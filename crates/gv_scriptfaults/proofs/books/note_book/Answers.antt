@@ -1,5 +1,4 @@
-use Rattle.std.proofs.Common.{map, ap, sym, ◌∙◌, Option}
-use Rattle.gv_typing.specs.declared.term_fault.Fault.{Fault}
+use Rattle.std.proofs.Common.{map, ap, ◌∙◌}
 use Rattle.gv_base.specs.declared.answers.Code.TheVariants.{TooMany}
 use Rattle.gv_scriptnames.specs.Names.{names_in}
 use Rattle.gv_scriptnames.specs.Scopes.{is_cell_count}

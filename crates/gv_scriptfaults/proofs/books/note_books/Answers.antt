@@ -1,4 +1,4 @@
-use Rattle.std.proofs.Common.{◌<◌, ℕ, List, length, map, take, get_or, subst, ap, arith}
+use Rattle.std.proofs.Common.{◌<◌, ℕ, List, length, map, take, subst, arith}
 use Rattle.std.proofs.lemmas.List.{take_all}
 use Rattle.gv_scriptnames.specs.declared.outline.BookOutline.{BookOutline}
 use Rattle.gv_scriptnames.specs.Names.{names_in}

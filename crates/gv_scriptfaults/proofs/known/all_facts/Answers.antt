@@ -1,4 +1,4 @@
-use Rattle.std.proofs.Common.{◌<◌, ◌++◌, ◌∷◌, [], ℕ, List, length, take, sym, subst, arith}
+use Rattle.std.proofs.Common.{◌<◌, ◌++◌, ◌∷◌, [], List, length, take, sym, subst, arith}
 use Rattle.std.specs.Prelude.{slice_get}
 use Rattle.gv_lang.specs.declared.program.Proc.{Proc}
 use Rattle.gv_scriptfaults.specs.declared.scoped.ProcFacts.{ProcFacts}

@@ -1,4 +1,4 @@
-use Rattle.std.proofs.Common.{ℕ, ◌^◌, ◌-◌, List, map, min, ap, subst, ◌∙◌}
+use Rattle.std.proofs.Common.{◌^◌, ◌-◌, List, map, min, ap, subst, ◌∙◌}
 use Rattle.gv_lang.specs.declared.program.Local.{Local}
 use Rattle.gv_lang.specs.declared.cmd.Cmd.{Cmd}
 use Rattle.gv_lang.specs.Plain.{body_of}

@@ -1,4 +1,4 @@
-use Rattle.std.proofs.Common.{◌≡◌, ℕ, List, length, map, Option, sym, subst, ap, ◌∙◌}
+use Rattle.std.proofs.Common.{ℕ, List, length, map, Option, sym, subst, ap, ◌∙◌}
 use Rattle.std.specs.Prelude.{slice_get}
 use Rattle.std.specs.Option.{option_and_then}
 use Rattle.std.specs.List.{list_any}
@@ -7,10 +7,10 @@ use Rattle.gv_lang.specs.declared.program.Proc.{Proc}
 use Rattle.gv_atomic.specs.declared.spec.Field.{Field}
 use Rattle.gv_atomic.specs.declared.spec.Op.{Op}
 use Rattle.gv_scriptnames.specs.Scopes.{is_field_of, named}
-use Rattle.gv_scriptfaults.specs.Tables.{Holds, IsTable, has, entry}
+use Rattle.gv_scriptfaults.specs.Tables.{Holds, IsTable, entry}
 use Rattle.gv_scriptfaults.specs.declared.scoped.ProcFacts.{ProcFacts}
 use Rattle.gv_scriptfaults.specs.Procs.{AreFacts}
-use Rattle.gv_scriptfaults.specs.Scoped.{IsKnown, ArePlaces}
+use Rattle.gv_scriptfaults.specs.Scoped.{ArePlaces}
 use Rattle.gv_scriptfaults.proofs.Lookups.{place_is, mapped_same}
 use Rattle.gv_scriptfaults.proofs.known.known_of.Goals as goal
 

@@ -1,5 +1,5 @@
-use Rattle.std.proofs.Common.{◌<◌, ◌+◌, ℕ, List, length, take, get_or, sym, subst, refl, ap, ◌∙◌, arith}
-use Rattle.std.proofs.lemmas.List.{take_more, take_all}
+use Rattle.std.proofs.Common.{◌<◌, ◌+◌, ℕ, List, length, take, get_or, sym, subst, refl, ◌∙◌, arith}
+use Rattle.std.proofs.lemmas.List.{take_more}
 use Rattle.gv_lang.specs.Plain.{program_of}
 use Rattle.gv_lang.specs.WellShaped.{method_at}
 use Rattle.gv_scriptfaults.specs.Tables.{IsTable}

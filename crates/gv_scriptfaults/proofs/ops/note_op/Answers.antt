@@ -1,4 +1,4 @@
-use Rattle.std.proofs.Common.{◌≡◌, [], ◌++◌, List, Option, not, is_some, option_map, length, map, ap, sym, subst, ◌∙◌}
+use Rattle.std.proofs.Common.{◌≡◌, ◌++◌, not, is_some, option_map, length, map, ap, ◌∙◌}
 use Rattle.std.specs.Option.{option_copied, option_and_then}
 use Rattle.std.specs.Prelude.{slice_get}
 use Rattle.gv_base.specs.declared.answers.Code.TheVariants.{Undeclared, Twice}

@@ -1,7 +1,7 @@
-use Rattle.std.proofs.Common.{◌≡◌, [], ◌++◌, List, option_map, map, ap, subst, ◌∙◌}
+use Rattle.std.proofs.Common.{◌≡◌, [], ◌++◌, List, option_map, ap, subst, ◌∙◌}
 use Rattle.gv_scriptnames.specs.declared.outline.BookOutline.{BookOutline}
 use Rattle.gv_scriptnames.specs.declared.outline.PredOutline.{PredOutline}
-use Rattle.gv_scriptnames.specs.Names.{name_in, names_in}
+use Rattle.gv_scriptnames.specs.Names.{name_in}
 use Rattle.gv_scriptnames.specs.Scopes.{outside, pred_named}
 use Rattle.gv_scriptnames.specs.Found.{in_each, of_book, of_pred_outline, of_crash, of_root}
 use Rattle.gv_scriptfaults.specs.Least.{after}

@@ -1,4 +1,4 @@
-use Rattle.std.proofs.Common.{◌≡◌, ◌++◌, [], Option, refl, ap, ◌∙◌}
+use Rattle.std.proofs.Common.{◌++◌, [], Option, refl, ap, ◌∙◌}
 use Rattle.gv_typing.specs.declared.term_fault.Fault.{Fault}
 use Rattle.gv_scriptnames.specs.Names.{name_in}
 use Rattle.gv_scriptnames.specs.Scopes.{outside, pred_named, recovery}

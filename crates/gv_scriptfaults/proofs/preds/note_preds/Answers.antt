@@ -1,4 +1,4 @@
-use Rattle.std.proofs.Common.{◌<◌, [], List, length, take, subst, sym, arith}
+use Rattle.std.proofs.Common.{◌<◌, List, length, take, subst, sym, arith}
 use Rattle.std.proofs.lemmas.List.{take_all}
 use Rattle.gv_scriptnames.specs.declared.outline.PredOutline.{PredOutline}
 use Rattle.gv_scriptnames.specs.Scopes.{outside}

@@ -1,4 +1,4 @@
-use Rattle.std.proofs.Common.{◌<◌, [], length, map, ap, ◌∙◌, arith}
+use Rattle.std.proofs.Common.{◌<◌, [], length, ap, ◌∙◌, arith}
 use Rattle.gv_scriptnames.specs.declared.outline.CaseOutline.{CaseOutline}
 use Rattle.gv_scriptnames.specs.Names.{names_of}
 use Rattle.gv_scriptnames.specs.Found.{all_twice}

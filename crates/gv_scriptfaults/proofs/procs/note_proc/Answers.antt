@@ -1,4 +1,4 @@
-use Rattle.std.proofs.Common.{◌≡◌, ℕ, [], ◌++◌, List, Option, not, map, ap, sym, subst, ◌∙◌, append-nil}
+use Rattle.std.proofs.Common.{◌≡◌, ℕ, [], ◌++◌, List, not, map, ap, sym, subst, ◌∙◌}
 use Rattle.std.specs.Prelude.{slice_get}
 use Rattle.std.specs.Option.{option_copied, option_and_then}
 use Rattle.gv_base.specs.declared.answers.Code.TheVariants.{Twice}
@@ -7,7 +7,7 @@ use Rattle.gv_scriptsyntax.specs.declared.tree.Par.{Par}
 use Rattle.gv_scriptnames.specs.declared.outline.ProcOutline.{ProcOutline}
 use Rattle.gv_scriptnames.specs.Mentions.{Mentions}
 use Rattle.gv_scriptnames.specs.Names.{name_in, names_in, names_of}
-use Rattle.gv_scriptnames.specs.Scopes.{Scope, is_borne, proc_named, param_names}
+use Rattle.gv_scriptnames.specs.Scopes.{is_borne, proc_named, param_names}
 use Rattle.gv_scriptnames.specs.Found.{unless, all_twice, of_results, of_own, of_mentions, of_body}
 use Rattle.gv_scriptfaults.specs.Least.{after}
 use Rattle.gv_scriptfaults.specs.Scoped.{Sees}
