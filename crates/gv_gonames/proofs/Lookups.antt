@@ -1,10 +1,15 @@
 -- Look-ups in tables and in lists.
-use Rattle.std.proofs.Common.{◌≡◌, ℕ, Bool, true, false, cond, List, [], ◌∷◌, ◌++◌, Option, Some, None, is_some, refl, sym, ap, ◌∙◌, Vec, Global}
+use Rattle.std.proofs.Common.{◌≡◌, ℕ, Bool, true, false, cond, List, [], ◌∷◌, ◌++◌, Option, Some, None, is_some, option_map, refl, sym, ap, ◌∙◌, Vec, Global}
 use Rattle.std.specs.Map.{lookup}
 use Rattle.std.specs.Str.{bytes_eq}
 use Rattle.std.proofs.lemmas.Slice.Eq.{bytes_eq-Decides}
 use Rattle.indexmap.specs.IndexMap.{insert_entry}
-use Rattle.gv_gotypes.specs.Scopes.{Named, named_in}
+use Rattle.gv_operands.specs.declared.types.GoType.{GoType}
+use Rattle.gv_gotypes.specs.Scopes.{Named, named_in, FieldType, Method}
+use Rattle.gv_gotypes.specs.Members.{method_among}
+use Rattle.gv_gonames.specs.declared.rows.MemberRow.{MemberRow}
+use Rattle.gv_gonames.specs.declared.rows.MemberRow.TheVariants.{Field, Method as ByMethod}
+use Rattle.gv_gonames.specs.Structs.{kind_among, member_among}
 use Rattle.gv_gonames.specs.Firsts.{or_first}
 
 both_ways : (a b : Bool) → (a ≡ true → b ≡ true) → (b ≡ true → a ≡ true) → a ≡ b
@@ -52,3 +57,35 @@ module _ {V : Type 0} where
 pub named_more : (ns : List Named) (n : Named) (name : List ℕ) → named_in (ns ++ n ∷ []) name ≡ or_first (named_in ns name) (bytes_eq n.name name) n.entity
 named_more [] n name = refl
 named_more (m ∷ ns) n name = ap (λ r. cond (bytes_eq m.name name) (Some m.entity) r) (named_more ns n name) ∙ passed (bytes_eq m.name name) m.entity (named_in ns name) (bytes_eq n.name name) n.entity
+
+-- ---- one member more
+
+method_more : (ms : List Method) (m : Method) (name : List ℕ) → method_among (ms ++ m ∷ []) name ≡ or_first (method_among ms name) (bytes_eq m.name name) m.procedure
+method_more [] m name = refl
+method_more (x ∷ ms) m name = ap (λ r. cond (bytes_eq x.name name) (Some x.procedure) r) (method_more ms m name) ∙ passed (bytes_eq x.name name) x.procedure (method_among ms name) (bytes_eq m.name name) m.procedure
+
+kind_more : (fs : List FieldType) (f : FieldType) (name : List ℕ) → kind_among (fs ++ f ∷ []) name ≡ or_first (kind_among fs name) (bytes_eq f.name name) f.kind
+kind_more [] f name = refl
+kind_more (x ∷ fs) f name = ap (λ r. cond (bytes_eq x.name name) (Some x.kind) r) (kind_more fs f name) ∙ passed (bytes_eq x.name name) x.kind (kind_among fs name) (bytes_eq f.name name) f.kind
+
+abbrev member_of : Option (Option GoType) → Option ℕ → Option MemberRow
+member_of k m = elim k [ None ↦ option_map ByMethod m | Some k ↦ Some (Field k) ]
+
+pub member_more : (fs : List FieldType) (ms : List Method) (m : Method) (name : List ℕ)
+    → member_among fs (ms ++ m ∷ []) name ≡ or_first (member_among fs ms name) (bytes_eq m.name name) (ByMethod m.procedure)
+member_more fs ms m name = ap (member_of (kind_among fs name)) (method_more ms m name) ∙ step (kind_among fs name) (method_among ms name) (bytes_eq m.name name)
+  where
+    step : (k : Option (Option GoType)) (o : Option ℕ) (own : Bool) → member_of k (or_first o own m.procedure) ≡ or_first (member_of k o) own (ByMethod m.procedure)
+    step (Some k) o own = refl
+    step None (Some n) own = refl
+    step None None true = refl
+    step None None false = refl
+
+pub field_more : (fs : List FieldType) (f : FieldType) (name : List ℕ)
+    → member_among (fs ++ f ∷ []) [] name ≡ or_first (member_among fs [] name) (bytes_eq f.name name) (Field f.kind)
+field_more fs f name = ap (λ k. member_of k None) (kind_more fs f name) ∙ step (kind_among fs name) (bytes_eq f.name name)
+  where
+    step : (k : Option (Option GoType)) (own : Bool) → member_of (or_first k own f.kind) None ≡ or_first (member_of k None) own (Field f.kind)
+    step (Some k) own = refl
+    step None true = refl
+    step None false = refl

@@ -7,7 +7,9 @@ mod firsts;
 mod name_table;
 mod rows;
 mod span;
+mod struct_table;
 
 pub use name_table::NameTable;
-pub use rows::NameRow;
+pub use rows::{FieldRow, MemberRow, MethodRow, NameRow};
 pub use span::{Span, bytes_between, span_of};
+pub use struct_table::StructTable;
