@@ -4,12 +4,17 @@
 #![tactic(auto)]
 
 mod firsts;
+mod locals;
+mod innermost;
 mod name_table;
 mod rows;
 mod span;
 mod struct_table;
+mod trail;
 
+pub use locals::Locals;
 pub use name_table::NameTable;
 pub use rows::{FieldRow, MemberRow, MethodRow, NameRow};
 pub use span::{Span, bytes_between, span_of};
 pub use struct_table::StructTable;
+pub use trail::{DeclaredStep, Local, Step};
