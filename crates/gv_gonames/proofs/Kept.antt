@@ -1,10 +1,8 @@
 -- What a table of scopes keeps, step by step.
-use Rattle.std.proofs.Common.{◌≡◌, ℕ, suc, zero, ◌<◌, ◌≤◌, ◌+◌, Bool, true, false, cond, ◌==◌, List, [], ◌∷◌, ◌++◌, length, Option, Some, None, option_map, ◌⊎◌, inl, inr, refl, sym, ap, ◌∙◌, subst, arith}
-use Rattle.std.specs.Prelude.{nat_lt}
+use Rattle.std.proofs.Common.{◌≡◌, ℕ, suc, ◌<◌, ◌≤◌, Bool, true, false, cond, ◌==◌, List, [], ◌∷◌, length, Option, Some, None, is_some, ◌⊎◌, inl, inr, refl, sym, ap, ◌∙◌, subst, arith}
 use Rattle.std.proofs.lemmas.Bool.{lt-ltb, le-ltb, eq-eqb}
 use Rattle.std.specs.Str.{bytes_eq}
 use Rattle.std.proofs.lemmas.Slice.Eq.{bytes_eq-Decides}
-use Rattle.gv_operands.specs.declared.types.GoType.{GoType}
 use Rattle.gv_gotypes.specs.declared.names.Entity.{Entity}
 use Rattle.gv_gotypes.specs.declared.names.Found.{Found}
 use Rattle.gv_gotypes.specs.Scopes.{Named, Entry, is_here, found_among, from_outside}
@@ -13,7 +11,7 @@ use Rattle.gv_gonames.specs.declared.trail.Local.{Local}
 use Rattle.gv_gonames.specs.declared.trail.DeclaredStep.{DeclaredStep}
 use Rattle.gv_gonames.specs.declared.trail.Step.{Step}
 use Rattle.gv_gonames.specs.declared.trail.Step.TheVariants.{Declared, Opened, Literal, Function}
-use Rattle.gv_gonames.specs.Trail.{entries_of, count_blocks, count_literals, local_of, local_in, found_by, is_here_by, flat, AreChained, IsKept}
+use Rattle.gv_gonames.specs.Trail.{entries_of, count_blocks, count_literals, local_of, local_in, found_by, is_here_by, flat, IsKept}
 use Rattle.gv_gonames.proofs.Lookups.{turned}
 
 -- ---- counts
@@ -139,8 +137,10 @@ kept_undone ss at new blocks literals d h put = record {
     step n false e = h.found n ∙ ap (λ (b : Bool). cond b (Some (local_of (entries_of ss) d.entity)) (local_in (entries_of ss) n)) (turned d.name.items n ∙ e)
 
 -- a name that was declared is in the table
-pub is_there : (ss : List Step) (at : At) (blocks literals : ℕ) (d : DeclaredStep) → IsKept (Declared d ∷ ss) at blocks literals → at d.name.items ≡ None → ⊥
-is_there ss at blocks literals d h e = none_some (sym (ap flat e) ∙ h.found d.name.items ∙ ap (λ (b : Bool). cond b (Some (local_of (entries_of ss) d.entity)) (local_in (entries_of ss) d.name.items)) ((bytes_eq-Decides d.name.items d.name.items).1 refl))
+pub is_there : (ss : List Step) (at : At) (blocks literals : ℕ) (d : DeclaredStep) → IsKept (Declared d ∷ ss) at blocks literals → is_some (at d.name.items) ≡ true
+is_there ss at blocks literals d h = step (at d.name.items) (h.found d.name.items
+    ∙ ap (λ (b : Bool). cond b (Some (local_of (entries_of ss) d.entity)) (local_in (entries_of ss) d.name.items)) ((bytes_eq-Decides d.name.items d.name.items).1 refl))
   where
-    none_some : {V : Type 0} {v : V} → None ≡ Some v → ⊥
-    none_some e = absurd cc
+    step : (o : Option (Option Local)) → flat o ≡ Some (local_of (entries_of ss) d.entity) → is_some o ≡ true
+    step None e = absurd cc
+    step (Some l) e = refl

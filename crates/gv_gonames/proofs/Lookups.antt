@@ -52,6 +52,37 @@ module _ {V : Type 0} where
       ∙ ap (λ (r : Option V). cond (bytes_eq n p.0.items) (Some p.1) r) (put_entry eq h es k v n (absent_on (bytes_eq k.items p.0.items) p.1 (at es k.items) e))
       ∙ passed (bytes_eq n p.0.items) p.1 (at es n) (bytes_eq n k.items) v
 
+  -- a value that is put at a key, whatever was there
+  pub entry_put : (eq : Vec ℕ Global → Vec ℕ Global → Bool) → ((a b : Vec ℕ Global) → eq a b ≡ bytes_eq a.items b.items) → (es : List (Vec ℕ Global × V)) (k : Vec ℕ Global) (v : V) (n : List ℕ)
+      → at (insert_entry eq es k v) n ≡ cond (bytes_eq n k.items) (Some v) (at es n)
+  entry_put eq h [] k v n = refl
+  entry_put eq h (p ∷ es) k v n = step (entry_put eq h es k v n) (eq k p.0) refl
+    where
+      alike : bytes_eq k.items p.0.items ≡ true → bytes_eq n k.items ≡ bytes_eq n p.0.items
+      alike e = ap (bytes_eq n) ((bytes_eq-Decides k.items p.0.items).0 e)
+
+      over : (a : Bool) (w : V) (r : Option V) → cond a (Some v) r ≡ cond a (Some v) (cond a (Some w) r)
+      over true w r = refl
+      over false w r = refl
+
+      swapped : (a b : Bool) (w : V) (r : Option V) → (b ≡ true → a ≡ false) → cond b (Some w) (cond a (Some v) r) ≡ cond a (Some v) (cond b (Some w) r)
+      swapped true true w r e = absurd (ff (e refl))
+        where
+          ff : true ≡ false → ⊥
+          ff e = absurd cc
+      swapped true false w r e = refl
+      swapped false b w r e = refl
+
+      step : at (insert_entry eq es k v) n ≡ cond (bytes_eq n k.items) (Some v) (at es n) → (b : Bool) → eq k p.0 ≡ b → at (cond b ((p.0, v) ∷ es) (p ∷ insert_entry eq es k v)) n ≡ cond (bytes_eq n k.items) (Some v) (cond (bytes_eq n p.0.items) (Some p.1) (at es n))
+      step more true e = ap (λ (a : Bool). cond a (Some v) (at es n)) (sym (alike (sym (h k p.0) ∙ e)))
+          ∙ over (bytes_eq n k.items) p.1 (at es n)
+          ∙ ap (λ (b : Bool). cond (bytes_eq n k.items) (Some v) (cond b (Some p.1) (at es n))) (alike (sym (h k p.0) ∙ e))
+      step more false e = ap (λ (r : Option V). cond (bytes_eq n p.0.items) (Some p.1) r) more
+          ∙ swapped (bytes_eq n k.items) (bytes_eq n p.0.items) p.1 (at es n) (apart n)
+        where
+          apart : (n : List ℕ) → bytes_eq n p.0.items ≡ true → bytes_eq n k.items ≡ false
+          apart n f = ap (λ (m : List ℕ). bytes_eq m k.items) ((bytes_eq-Decides n p.0.items).0 f) ∙ turned p.0.items k.items ∙ sym (h k p.0) ∙ e
+
 -- ---- one name more
 
 pub named_more : (ns : List Named) (n : Named) (name : List ℕ) → named_in (ns ++ n ∷ []) name ≡ or_first (named_in ns name) (bytes_eq n.name name) n.entity

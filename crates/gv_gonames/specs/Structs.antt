@@ -1,5 +1,5 @@
 -- Structs as a table has them.
-use Rattle.std.specs.Prelude.{ℕ, Bool, if◌then◌else◌, List, [], ◌∷◌, ◌++◌, Option, Some, None, option_map, map, slice_range}
+use Rattle.std.specs.Prelude.{ℕ, if◌then◌else◌, List, [], ◌∷◌, ◌++◌, Option, Some, None, option_map, slice_range}
 use Rattle.std.specs.Str.{bytes_eq}
 use Rattle.gv_operands.specs.declared.types.GoType.{GoType}
 use Rattle.gv_gotypes.specs.Scopes.{FieldType, Method, StructType}

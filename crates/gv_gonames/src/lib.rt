@@ -4,8 +4,8 @@
 #![tactic(auto)]
 
 mod firsts;
-mod locals;
 mod innermost;
+mod locals;
 mod name_table;
 mod rows;
 mod span;

@@ -5,8 +5,8 @@ ghost use Rattle.std.specs.Bool.{OnTrue, OnFalse};
 ghost use Rattle.gv_gotypes.specs.Scopes as scope;
 ghost use Rattle.gv_gonames.specs.Trail.{entered, is_around, with_declared, with_entry};
 
-use crate::innermost::{found_as, is_in_block, local_at};
-use crate::trail::{Local, Step};
+use crate::innermost::{found_as, is_in_block, local_at, put, put_back};
+use crate::trail::{DeclaredStep, Local, Step};
 use gv_base::NoMemory;
 use gv_gotypes::{Entity, Found};
 use gv_operands::GoType;
@@ -108,5 +108,72 @@ impl Locals {
         let before = replace(&mut self.results, results);
         self.trail.push(Step::Function(before))?;
         Ok(())
+    }
+
+    /// A name is declared. Where the block that was opened last has it already, nothing is.
+    pub fn declare(&mut self, alloc: Global, name: &[u8], entity: Entity) -> Result<(), NoMemory>
+        ensures declared { OnOk result (self.new ≡ with_declared self.old name.now entity) }
+        ensures kept { OnErr result (self.new ≡ self.old) }
+    {
+        if self.is_here(name) {
+            return Ok(());
+        }
+        let step = DeclaredStep {
+            name: Vec::from_slice(alloc, name)?,
+            entity,
+            before: local_at(&self.seen, name),
+        };
+        let local = Local {
+            entity,
+            blocks: self.blocks,
+            literals: self.literals,
+        };
+        let key = Vec::from_slice(alloc, name)?;
+        self.trail.reserve(1)?;
+        put(&mut self.seen, key, Some(local))?;
+        self.trail.push(Step::Declared(step))?;
+        Ok(())
+    }
+
+    // Takes back the last step, and tells whether it began a scope.
+    fn step_back(&mut self) -> bool
+        requires { is_around self.old.outer ≡ true }
+        ensures ended { OnTrue result (self.old.outer ≡ self.new.here ∷ self.new.outer) }
+        ensures shorter { OnTrue result (length self.new.here.entries ≤ length self.old.here.entries) }
+        ensures same { OnFalse result (self.new.outer ≡ self.old.outer) }
+        ensures fewer { OnFalse result (length self.new.here.entries < length self.old.here.entries) }
+    {
+        match self.trail.pop() {
+            Some(Step::Declared(step)) => {
+                put_back(&mut self.seen, step.name, step.before);
+                false
+            }
+            Some(Step::Opened) => {
+                self.blocks -= 1;
+                true
+            }
+            Some(Step::Literal(before)) => {
+                self.blocks -= 1;
+                self.literals -= 1;
+                self.results = before;
+                true
+            }
+            Some(Step::Function(before)) => {
+                self.results = before;
+                true
+            }
+            None => unreachable!(),
+        }
+    }
+
+    /// What was opened last ends: what is seen is what was seen before it was.
+    pub fn close(&mut self)
+        requires { is_around self.old.outer ≡ true }
+        ensures { self.old.outer ≡ self.new.here ∷ self.new.outer }
+    {
+        let mut ended = false;
+        while !ended {
+            ended = self.step_back();
+        }
     }
 }

@@ -31,12 +31,12 @@ impl<'a> Model for StructTable<'a> {
     ghost Value = { StructOf };
 
     ghost view = { λ t. record {
-        text = t.text.now;
-        struct = record {
-            name = slice_range t.text.now t.name.start t.name.end;
-            fields = map (field_row t.text.now) t.fields.items;
-            methods = map (method_row t.text.now) t.methods.items
-        }
+      text = t.text.now;
+      struct = record {
+        name = slice_range t.text.now t.name.start t.name.end;
+        fields = map (field_row t.text.now) t.fields.items;
+        methods = map (method_row t.text.now) t.methods.items;
+      };
     } };
 
     ghost invariant = { λ t. (name : Seq ℕ) →
@@ -65,7 +65,12 @@ impl<'a> StructTable<'a> {
     }
 
     /// Adds the field of a span behind the others, and tells whether its name is a new one. There are no methods yet.
-    pub fn add_field(&mut self, alloc: Global, name: Span, kind: Option<GoType>) -> Result<bool, NoMemory>
+    pub fn add_field(
+        &mut self,
+        alloc: Global,
+        name: Span,
+        kind: Option<GoType>,
+    ) -> Result<bool, NoMemory>
         requires { self.old.struct.methods ≡ [] }
         ensures told { IfOk result (λ new. new ≡ is_none (member_among self.old.struct.fields self.old.struct.methods (spelled self.old name))) }
         ensures added { OnOk result (self.new ≡ with_field self.old name kind) }
@@ -78,7 +83,12 @@ impl<'a> StructTable<'a> {
     }
 
     /// Adds the method of a span behind the others, and tells whether no field and no method before it has its name.
-    pub fn add_method(&mut self, alloc: Global, name: Span, procedure: u32) -> Result<bool, NoMemory>
+    pub fn add_method(
+        &mut self,
+        alloc: Global,
+        name: Span,
+        procedure: u32,
+    ) -> Result<bool, NoMemory>
         ensures told { IfOk result (λ new. new ≡ is_none (member_among self.old.struct.fields self.old.struct.methods (spelled self.old name))) }
         ensures added { OnOk result (self.new ≡ with_method self.old name procedure) }
     {

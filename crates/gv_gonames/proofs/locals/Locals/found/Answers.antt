@@ -1,5 +1,4 @@
-use Rattle.std.proofs.Common.{◌≡◌, ℕ, Option, List, reverse, sym, ap, ◌∙◌}
-use Rattle.gv_gotypes.specs.declared.names.Found.{Found}
+use Rattle.std.proofs.Common.{ℕ, Option, List, reverse, ap, ◌∙◌}
 use Rattle.gv_gotypes.specs.Scopes as scope
 use Rattle.gv_gonames.specs.declared.trail.Local.{Local}
 use Rattle.gv_gonames.specs.Trail.{ScopesOf, entries_of, local_in, found_by}

@@ -1,4 +1,4 @@
-use Rattle.std.proofs.Common.{arith, length, reverse}
+use Rattle.std.proofs.Common.{arith, reverse}
 use Rattle.std.proofs.lemmas.List.{length-reverse}
 use Rattle.gv_gonames.proofs.Kept.{blocks_room, literals_room}
 use Rattle.gv_gonames.proofs.locals.Locals.open_literal.Goals as goal

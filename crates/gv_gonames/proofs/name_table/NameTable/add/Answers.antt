@@ -16,7 +16,7 @@ invariant_of-self-2 c name =
     c.in_ok-new.ensures.put name
     ∙ ap (λ (r : Option _). or_first r (bytes_eq name c.bytes_between-bytes.result.now) c.args.entity) (c.self.invariant name)
     ∙ ap (λ (b : Bool). or_first (named_in (named_rows text c.self.inside.rows.items) name) b c.args.entity)
-        (turned name c.bytes_between-bytes.result.now ∙ ap (λ (bs : List ℕ). bytes_eq bs name) c.bytes_between-bytes.ensures)
+    (turned name c.bytes_between-bytes.result.now ∙ ap (λ (bs : List ℕ). bytes_eq bs name) c.bytes_between-bytes.ensures)
     ∙ sym (named_more (named_rows text c.self.inside.rows.items) (named_row text row) name)
     ∙ ap (λ (ns : List Named). named_in ns name) (sym (map-append (named_row text) c.self.inside.rows.items (row ∷ [])))
     ∙ ap (λ (rs : List NameRow). named_in (named_rows text rs) name) (sym grown)

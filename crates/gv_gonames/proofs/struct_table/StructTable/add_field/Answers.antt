@@ -1,4 +1,4 @@
-use Rattle.std.proofs.Common.{rules, ◌≡◌, ℕ, refl, sym, ap, ◌∙◌, Option, Bool, List, [], ◌∷◌, ◌++◌, map}
+use Rattle.std.proofs.Common.{rules, ◌≡◌, ℕ, sym, ap, ◌∙◌, Option, Bool, List, [], ◌∷◌, ◌++◌, map}
 use Rattle.std.proofs.lemmas.List.{map-append}
 use Rattle.std.specs.Str.{bytes_eq}
 use Rattle.gv_gotypes.specs.Scopes.{FieldType, Method}
@@ -21,7 +21,7 @@ invariant_of-self-2 c name =
     c.in_ok-new.ensures.put name
     ∙ ap (λ (r : Option MemberRow). or_first r (bytes_eq name c.bytes_between-bytes.result.now) (Field c.args.kind)) (c.self.invariant name)
     ∙ ap (λ (b : Bool). or_first (member_among fields methods name) b (Field c.args.kind))
-        (turned name c.bytes_between-bytes.result.now ∙ ap (λ (bs : List ℕ). bytes_eq bs name) c.bytes_between-bytes.ensures)
+    (turned name c.bytes_between-bytes.result.now ∙ ap (λ (bs : List ℕ). bytes_eq bs name) c.bytes_between-bytes.ensures)
     ∙ ap (λ (ms : List Method). or_first (member_among fields ms name) (bytes_eq (field_row text row).name name) (Field c.args.kind)) none
     ∙ sym (field_more fields (field_row text row) name)
     ∙ ap (λ (ms : List Method). member_among (fields ++ field_row text row ∷ []) ms name) (sym none)

@@ -1,4 +1,4 @@
-use Rattle.std.proofs.Common.{rules, ◌≡◌, ℕ, refl, sym, ap, ◌∙◌, Option, Bool, List, [], ◌∷◌, ◌++◌, map}
+use Rattle.std.proofs.Common.{rules, ◌≡◌, ℕ, sym, ap, ◌∙◌, Option, Bool, List, [], ◌∷◌, ◌++◌, map}
 use Rattle.std.proofs.lemmas.List.{map-append}
 use Rattle.std.specs.Str.{bytes_eq}
 use Rattle.gv_gotypes.specs.Scopes.{FieldType, Method}
@@ -20,7 +20,7 @@ invariant_of-self-2 c name =
     c.in_ok-new.ensures.put name
     ∙ ap (λ (r : Option MemberRow). or_first r (bytes_eq name c.bytes_between-bytes.result.now) (ByMethod c.args.procedure)) (c.self.invariant name)
     ∙ ap (λ (b : Bool). or_first (member_among fields methods name) b (ByMethod c.args.procedure))
-        (turned name c.bytes_between-bytes.result.now ∙ ap (λ (bs : List ℕ). bytes_eq bs name) c.bytes_between-bytes.ensures)
+    (turned name c.bytes_between-bytes.result.now ∙ ap (λ (bs : List ℕ). bytes_eq bs name) c.bytes_between-bytes.ensures)
     ∙ sym (member_more fields methods (method_row text row) name)
     ∙ ap (λ (ms : List Method). member_among fields ms name) (sym (map-append (method_row text) c.self.inside.methods.items (row ∷ [])))
     ∙ ap (λ (rs : List MethodRow). member_among fields (map (method_row text) rs) name) (sym grown)
