@@ -17,8 +17,9 @@ use Rattle.gv_seats.specs.Paths.{Path, number, goes_on}
 use Rattle.gv_seats.specs.Changes.{SetsBlock}
 use Rattle.gv_seats.specs.Soundness.{IsSoundStep}
 use Rattle.gv_seats.proofs.Locals.{set_elsewhere}
-use Rattle.gv_slicing.specs.Rows.{writes, block_of, one_of, equal}
-use Rattle.gv_slicing.proofs.DiskWrites.{writes_law}
+use Rattle.gv_slicing.specs.Rows.{one_of, equal}
+use Rattle.gv_blocks.specs.Rows.{writes, block_of}
+use Rattle.gv_blocks.proofs.DiskWrites.{writes_law}
 use Rattle.gv_rows.specs.Formed.{AreFormed, values_of}
 use Rattle.gv_rows.specs.Rows.{Head, Owned, Cells, State, Spot, atom_of, first_of, slot_of, started}
 use Rattle.gv_rows.specs.Table.{disk_write_row}

@@ -47,11 +47,11 @@ use Rattle.gv_seats.proofs.Expressions.{expressions_law}
 use Rattle.gv_seats.proofs.Objects.{one_run, has_cell, cells_are}
 use Rattle.gv_rules.proofs.Loads.{unmarked_is}
 use Rattle.gv_rules.proofs.Steps.{with_local, left_with, seat_set}
-use Rattle.gv_slicing.specs.Rows.{items, one_of, less}
 use Rattle.gv_slicing.specs.Laws.{ItemsLaw}
-use Rattle.gv_slicing.proofs.Blocks.{there_within, within_there, below_is}
-use Rattle.gv_slicing.proofs.DiskReads.{word_operand}
-use Rattle.gv_slicing.proofs.DiskWrites.{slice_is, slice_value, owns_item, item_told, byte_is, mapped_at, not_mine}
+use Rattle.gv_slicing.specs.Rows.{items, one_of, less}
+use Rattle.gv_slicing.proofs.Lists.{there_within, within_there, below_is, mapped_at}
+use Rattle.gv_slicing.proofs.Operands.{word_operand, slice_is, slice_value}
+use Rattle.gv_slicing.proofs.Owned.{owns_item, item_told, byte_is, not_mine}
 
 -- ---- items of lists
 

@@ -1,7 +1,7 @@
 pub mod Truths
-pub mod Blocks
+pub mod Lists
+pub mod Operands
+pub mod Owned
 pub mod Fresh
-pub mod DiskReads
-pub mod DiskWrites
 pub mod SliceMakes
 pub mod Items

@@ -50,10 +50,10 @@ use Rattle.gv_seats.specs.Soundness.{Goes, goes, at_rest}
 use Rattle.gv_seats.proofs.Extending.{described_agree}
 use Rattle.gv_seats.proofs.Locals.{have_set, set_length}
 use Rattle.gv_giving.proofs.Folding.{extended_agree, extended_valued, extended_values}
-use Rattle.gv_slicing.specs.Rows.{makes, list_sort, less, one_of, zero_facts, made_path}
 use Rattle.gv_slicing.specs.Laws.{MakesLaw}
-use Rattle.gv_slicing.proofs.DiskReads.{word_operand}
+use Rattle.gv_slicing.specs.Rows.{makes, list_sort, less, one_of, zero_facts, made_path}
 use Rattle.gv_slicing.proofs.Fresh.{next_object, fresh_is, sliced_too, sliced_changes, new_items, owns_slice, no_spare, untouched_is, base_grown, still_grown}
+use Rattle.gv_slicing.proofs.Operands.{word_operand}
 use Rattle.gv_slicing.proofs.Truths.{facts_join, number_value, equal_true, one_value}
 
 -- ---- lists of zeros

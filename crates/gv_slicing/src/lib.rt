@@ -1,6 +1,6 @@
-//! Rules of a proof about slices and disks that are sound for one thread, whatever others own.
+//! Rules of a proof about slices that are sound for one thread, whatever others own.
 #![tactic(auto)]
 
 mod laws;
 
-pub use laws::{items_sound, makes_sound, reads_sound, writes_sound};
+pub use laws::{items_sound, makes_sound};

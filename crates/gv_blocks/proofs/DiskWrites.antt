@@ -37,16 +37,15 @@ use Rattle.gv_resources.specs.Kinds as kind
 use Rattle.gv_resources.specs.Kinds.{Kind, item_kind}
 use Rattle.gv_resources.specs.Pieces.{Resource, Have, Piece, Fits, single}
 use Rattle.gv_resources.specs.Ghost.{Ghost}
-use Rattle.gv_resources.specs.Told.{Shape, told, under, only_if, value_of, object_at, cells_in, in_block, block_at, failed_in, numbers_of, number_of}
+use Rattle.gv_resources.specs.Told.{Shape, told, under, only_if, object_at, cells_in, in_block, block_at, failed_in, numbers_of, number_of}
 use Rattle.gv_resources.proofs.Equality.{single_same, single_within}
-use Rattle.gv_resources.proofs.Excluding.{excludes_law}
 use Rattle.gv_resources.proofs.Fitting.{retold, retold_test, fits_change, fits_same}
 use Rattle.gv_resources.proofs.Sums.{number_test, below_test, changed, changed_there, changed_elsewhere}
 use Rattle.gv_assertions.specs.Atoms.{Slice, Predicate}
 use Rattle.gv_assertions.specs.Standing.{StandsFor, owns, slice, OwnsItems, OwnsSlice, cell_key, owned_key, number_under, IsTrueUnder}
 use Rattle.gv_assertions.proofs.Lists.{front, parted}
 use Rattle.gv_seats.specs.Paths.{number, goes_on}
-use Rattle.gv_seats.specs.Seats.{Proof, shape_of, IsConsistent, plain, CellAt, MapAt, OwnsTarget, AreOwned, of_locks}
+use Rattle.gv_seats.specs.Seats.{Proof, shape_of, IsConsistent, CellAt, MapAt, AreOwned, of_locks}
 use Rattle.gv_seats.specs.Seats.{is_marked as cell_marked}
 use Rattle.gv_seats.specs.Changes.{SetsBlock, Changed}
 use Rattle.gv_seats.specs.Soundness.{Goes, goes, at_rest}
@@ -54,28 +53,19 @@ use Rattle.gv_seats.proofs.Bases.{still_closed}
 use Rattle.gv_seats.proofs.Expressions.{expressions_law}
 use Rattle.gv_seats.proofs.Locals.{set_there, set_elsewhere, set_length}
 use Rattle.gv_seats.proofs.Objects.{has_cell, cells_are}
-use Rattle.gv_seats.proofs.Owning.{apart}
-use Rattle.gv_rules.proofs.Loads.{Found, found_in, only_if_is, unmarked_is}
+use Rattle.gv_rules.proofs.Loads.{unmarked_is}
 use Rattle.gv_rules.proofs.Stores.{swapped}
-use Rattle.gv_slicing.specs.Rows.{writes, one_of, equal, block_of}
-use Rattle.gv_slicing.specs.Laws.{WritesLaw}
-use Rattle.gv_slicing.proofs.Blocks.{Block, block_is, disk_found}
-use Rattle.gv_slicing.proofs.DiskReads.{word_operand, number_sort}
+use Rattle.gv_slicing.specs.Rows.{one_of, equal}
+use Rattle.gv_slicing.proofs.Lists.{mapped_at}
+use Rattle.gv_slicing.proofs.Operands.{word_operand, slice_is, slice_value}
+use Rattle.gv_slicing.proofs.Owned.{owns_item, item_told, byte_is, not_mine}
 use Rattle.gv_slicing.proofs.Truths.{number_value, one_value}
+use Rattle.gv_blocks.specs.Laws.{WritesLaw}
+use Rattle.gv_blocks.specs.Rows.{writes, block_of}
+use Rattle.gv_blocks.proofs.Blocks.{Block, block_is, disk_found}
+use Rattle.gv_blocks.proofs.DiskReads.{number_sort}
 
 -- ---- values
-
-pub slice_is : (v : Val) (s : SliceVal) → plain v ≡ Some (val.SliceS s) → v ≡ stored.Slice s
-slice_is (stored.Slice t) s e = let same : t ≡ s = cc in ap stored.Slice same
-slice_is (stored.Word m) s e = absurd cc
-slice_is (stored.Ref r) s e = absurd cc
-slice_is (stored.Bool b) s e = absurd cc
-slice_is (stored.Byte b) s e = absurd cc
-slice_is stored.Unit s e = absurd cc
-
-pub slice_value : (x : Value) → sort_of_value x ≡ Some sort.SliceS → (s : SliceVal) × (x ≡ val.SliceS s)
-slice_value (val.SliceS s) e = (s, refl)
-slice_value _ e = absurd cc
 
 bytes_value : (x : Value) → sort_of_value x ≡ Some sort.Bytes → (bytes : List ℕ) × (x ≡ val.Bytes bytes)
 bytes_value (val.Bytes bytes) e = (bytes, refl)
@@ -126,54 +116,12 @@ cells_long (b ∷ bytes) = ap suc (cells_long bytes)
 
 -- ---- the cells of a slice that is owned
 
-pub owns_item : (k : Kind) (s : SliceVal) (place : ℕ) (items : List Value) (p : Piece) (i : ℕ) (v : Value) → OwnsItems k s place items p → slice_get items i ≡ Some v
-    → 0 < p (Have k (cell_key s (place + i)) (v ∷ []))
-owns_item k s place [] p i v h e = absurd cc
-owns_item k s place (u ∷ items) p zero v h e =
-    let same : u ≡ v = cc in
-    subst (λ (n : ℕ). 0 < p (Have k (cell_key s n) (v ∷ []))) (omega arith) (subst (λ (x : Value). 0 < p (Have k (cell_key s place) (x ∷ []))) same h.0)
-owns_item k s place (u ∷ items) p (suc i) v h e =
-    subst (λ (n : ℕ). 0 < p (Have k (cell_key s n) (v ∷ []))) (omega arith) (owns_item k s (place + 1) items p i v h.1 e)
-
-pub item_told : (z : Shape) (w : World) (g : Ghost) (frozen : Bool) (o i : ℕ) (x : Value) → told z w g (item_kind frozen) (val.Ref o ∷ val.Word i ∷ []) ≡ Some (x ∷ []) → Found w o i x
-item_told z w g false o i x e = found_in w o i x _ refl (only_if_is _ _ (x ∷ []) e)
-item_told z w g true o i x e = found_in w o i x _ refl (only_if_is _ _ (x ∷ []) e)
-
-pub byte_is : (v : Val) (b : ℕ) → value_of v ≡ val.Bytes (b ∷ []) → v ≡ stored.Byte b
-byte_is (stored.Byte c) b e = let same : c ≡ b = cc in ap stored.Byte same
-byte_is (stored.Word n) b e = absurd cc
-byte_is (stored.Bool t) b e = absurd cc
-byte_is (stored.Ref r) b e = absurd cc
-byte_is (stored.Slice s) b e = absurd cc
-byte_is stored.Unit b e = absurd cc
-
 cell_made : (v : Val) (m : Bool) (b : ℕ) → v ≡ stored.Byte b → m ≡ false → record { value = v; marked = m } ≡ byte_cell b
 cell_made v m b e q = rw (e, q) refl
-
-pub mapped_at : (f : ℕ → Value) (xs : List ℕ) (i x : ℕ) → slice_get xs i ≡ Some x → slice_get (map f xs) i ≡ Some (f x)
-mapped_at f [] i x e = absurd cc
-mapped_at f (y ∷ xs) zero x e = let same : y ≡ x = cc in ap (λ (z : ℕ). Some (f z)) same
-mapped_at f (y ∷ xs) (suc i) x e = mapped_at f xs i x e
 
 items_long : (bytes : List ℕ) → length (map (λ c. val.Bytes (c ∷ [])) bytes) ≡ length bytes
 items_long [] = refl
 items_long (b ∷ bytes) = ap suc (items_long bytes)
-
-module _ (z : Shape) (w : World) (g : Ghost) (all : Piece) (f : Fits all (told z w g)) (frozen : Bool) (o i : ℕ) (v : List Value) (mine rest : Piece)
-    (parts : (e : Resource) → mine e + rest e ≤ all e) where
-  abbrev key : List Value
-  key = val.Ref o ∷ val.Word i ∷ []
-
-  pub not_mine : (frozen : Bool) → 0 < mine (Have (item_kind frozen) key v) → OwnsTarget rest (CellAt o i) → ⊥
-  not_mine false has other = apart z w g all f mine rest parts (CellAt o i) (inr (v, has)) other
-  not_mine true has (inl (u, other)) =
-      let a = parts (Have kind.FrozenItem key v) in
-      let b = parts (Have kind.Cell key u) in
-      (excludes_law z w g all f).one_form kind.Cell kind.FrozenItem o i i u v (inl refl) (inr refl) (omega arith) (omega arith)
-  not_mine true has (inr (u, other)) =
-      let a = parts (Have kind.FrozenItem key v) in
-      let b = parts (Have kind.Item key u) in
-      (excludes_law z w g all f).items key u v (omega arith) (omega arith)
 
 pub record Bytes (w : World) (s : SliceVal) (bytes : List ℕ) : Type 0 where
   pub run_is : slice_run w s ≡ Next (byte_cells bytes)

@@ -1,7 +1,6 @@
 -- What is told of blocks, and reading one.
-use Rattle.std.proofs.Common.{◌≡◌, ℕ, zero, suc, ◌<◌, Bool, true, false, not, nat_lt, if◌then◌else◌, List, [], ◌∷◌, map, length, Option, Some, None, refl, sym, ap, subst, ◌∙◌, inl, inr, arith}
+use Rattle.std.proofs.Common.{◌≡◌, ℕ, zero, suc, ◌<◌, Bool, true, false, not, nat_lt, if◌then◌else◌, List, [], ◌∷◌, map, length, Option, Some, None, refl, sym, ap, ◌∙◌, inl, inr, arith}
 use Rattle.std.specs.Prelude.{slice_get}
-use Rattle.std.specs.List.{All}
 use Rattle.gv_base.specs.declared.answer.Answer.{Answer}
 use Rattle.gv_base.specs.declared.answer.Answer.TheVariants.{Next}
 use Rattle.gv_base.specs.declared.reason.Reason.TheVariants.{BadAddress}
@@ -17,25 +16,8 @@ use Rattle.gv_resources.specs.Ghost.{Ghost}
 use Rattle.gv_resources.specs.Told.{told, only_if, value_of, in_block, block_at}
 use Rattle.gv_resources.proofs.Sums.{below_test}
 use Rattle.gv_seats.specs.Seats.{Proof, shape_of, AreShadows}
-use Rattle.gv_slicing.specs.Rows.{block_kind}
-
--- ---- lists
-
-pub there_within : {A : Type 0} (xs : List A) (n : ℕ) → n < length xs → (x : A) × (slice_get xs n ≡ Some x)
-there_within [] n l = absurd (omega (arith, l))
-there_within (x ∷ xs) zero l = (x, refl)
-there_within (x ∷ xs) (suc n) l = there_within xs n (omega (arith, l))
-
-pub within_there : {A : Type 0} (xs : List A) (n : ℕ) (x : A) → slice_get xs n ≡ Some x → n < length xs
-within_there [] n x e = absurd cc
-within_there (y ∷ xs) zero x e = omega arith
-within_there (y ∷ xs) (suc n) x e = let l = within_there xs n x e in omega arith
-
--- what holds of all holds of the item under a number
-pub of_all : {A : Type 0} (P : A → Type 0) (xs : List A) (n : ℕ) (x : A) → All P xs → slice_get xs n ≡ Some x → P x
-of_all P [] n x all e = absurd cc
-of_all P (y ∷ xs) zero x all e = let same : y ≡ x = cc in subst P same (all 0 y (omega arith))
-of_all P (y ∷ xs) (suc n) x all e = of_all P xs n x (λ k d l. all (suc k) d (omega (arith, l))) e
+use Rattle.gv_slicing.proofs.Lists.{there_within, within_there, of_all, below_is}
+use Rattle.gv_blocks.specs.Rows.{block_kind}
 
 -- ---- a block that is owned
 
@@ -56,9 +38,6 @@ passed false x v e = absurd cc
 bytes_found : (found : Option (List ℕ)) (v : Value) → in_block found ≡ Some (v ∷ []) → (bytes : List ℕ) × (found ≡ Some bytes) × (val.Bytes bytes ≡ v)
 bytes_found None v e = absurd cc
 bytes_found (Some bytes) v e = (bytes, refl, cc)
-
-pub below_is : (m n : ℕ) → nat_lt m n ≡ true → m < n
-below_is m n e = elim (below_test m n) [ inl (l, t) ↦ l | inr (l, t) ↦ (let never : true ≡ false = sym e ∙ t in absurd cc) ]
 
 pub block_is : (o : Proof) (w : World) (g : Ghost) (d n : ℕ) (v : Value) → AreShadows o w g → block_at (shape_of o) g d n ≡ Some (v ∷ []) → Block o w g d n v
 block_is o w g d n v blocks e =

@@ -17,14 +17,13 @@ use Rattle.gv_terms.specs.declared.value.Value.TheVariants as val
 use Rattle.gv_terms.specs.declared.var.Var.{Var}
 use Rattle.gv_terms.specs.Scopes.{is_among, is_closed}
 use Rattle.gv_terms.specs.Trees.{sort_of, value_under}
-use Rattle.gv_terms.specs.Values.{sort_of_value, has_sort, slice_of}
+use Rattle.gv_terms.specs.Values.{has_sort, slice_of}
 use Rattle.gv_terms.proofs.NodeSorts.{sort_apply}
 use Rattle.gv_terms.proofs.Valued.{value_apply}
-use Rattle.gv_terms.proofs.ValueSorts.{values_have_sorts}
 use Rattle.gv_world.specs.declared.cell.Cell.{Cell}
 use Rattle.gv_world.specs.Answers.{and_then}
 use Rattle.gv_world.specs.Store as world
-use Rattle.gv_world.specs.Store.{Disk, Store as World, block_bytes, fresh, with_new}
+use Rattle.gv_world.specs.Store.{Disk, Store as World, block_bytes, with_new}
 use Rattle.gv_world.specs.Disks.{byte_cells, disk_read}
 use Rattle.gv_world.specs.Slices.{nil_slice, whole_of}
 use Rattle.gv_lang.specs.Tree.{Expr, DiskRead2, Do, Program}
@@ -51,15 +50,16 @@ use Rattle.gv_seats.specs.Changes.{Nothing}
 use Rattle.gv_seats.specs.Soundness.{Goes, goes, at_rest}
 use Rattle.gv_seats.specs.Scoping.{IsScoped, variable}
 use Rattle.gv_seats.proofs.Bases.{unchanged, base_after, base_with}
-use Rattle.gv_seats.proofs.Expressions.{expressions_law}
 use Rattle.gv_seats.proofs.Extending.{with_value, agree_one, new_value, valued_one, described_agree}
 use Rattle.gv_seats.proofs.Locals.{have_set, set_length}
 use Rattle.gv_rules.specs.Rows.{IsLocal}
-use Rattle.gv_slicing.specs.Rows.{reads, reads_other, block_kind, block_facts, read_path, failed_path, truth, one_of}
-use Rattle.gv_slicing.specs.Laws.{ReadsLaw}
-use Rattle.gv_slicing.proofs.Blocks.{Block, block_is, block_told, read_failed, read_block, byte_items, bytes_unmarked, bytes_long}
+use Rattle.gv_slicing.specs.Rows.{one_of}
 use Rattle.gv_slicing.proofs.Fresh.{next_object, fresh_is, sliced_too, sliced_changes, new_items, owns_slice, no_spare, untouched_is, base_grown, still_grown}
+use Rattle.gv_slicing.proofs.Operands.{word_operand}
 use Rattle.gv_slicing.proofs.Truths.{facts_join, number_value, equal_true, one_value}
+use Rattle.gv_blocks.specs.Laws.{ReadsLaw}
+use Rattle.gv_blocks.specs.Rows.{reads, reads_other, block_kind, block_facts, read_path, failed_path, truth}
+use Rattle.gv_blocks.proofs.Blocks.{Block, block_is, block_told, read_failed, read_block, byte_items, bytes_unmarked, bytes_long}
 
 -- ---- the step
 
@@ -89,26 +89,6 @@ module _ (program : Program) (extra : ℕ) (w : World) (f : Frame) (below : List
       (settled (at_rest (at (Run (Do (DiskRead2 x ok dd a) place) ∷ next)) below) w (Some next)) ≡ came x ok next read) (sym answer) refl)))
 
 -- ---- operands
-
-pub word_is : (v : Val) (n : ℕ) → plain v ≡ Some (val.Word n) → v ≡ stored.Word n
-word_is (stored.Word m) n e = let same : m ≡ n = cc in ap stored.Word same
-word_is (stored.Ref r) n e = absurd cc
-word_is (stored.Bool b) n e = absurd cc
-word_is (stored.Slice t) n e = absurd cc
-word_is (stored.Byte b) n e = absurd cc
-word_is stored.Unit n e = absurd cc
-
-pub word_value : (x : Value) → sort_of_value x ≡ Some sort.Word → (n : ℕ) × (x ≡ val.Word n)
-word_value (val.Word n) e = (n, refl)
-word_value _ e = absurd cc
-
--- an expression whose term is a word has a word
-pub word_operand : (env : Env) (terms : List (Option TermTree)) (locals : List Val) → HaveValues env terms locals → (e : Expr) (t : TermTree) → term_of terms e ≡ Some t
-    → sort_of t ≡ Some sort.Word → (n : ℕ) × (value locals e ≡ Some (stored.Word n)) × (value_under env t ≡ val.Word n)
-word_operand env terms locals have e t term sorted =
-    let (v, found, is) = expressions_law env terms locals have e t sort.Word term sorted in
-    let (n, value_is) = word_value (value_under env t) (values_have_sorts env t sort.Word sorted) in
-    (n, found ∙ ap Some (word_is v n (is ∙ ap Some value_is)), value_is)
 
 pub number_sort : (n : ℕ) → sort_of (number n) ≡ Some sort.Word
 number_sort n = sort_apply (op.Number n) []
