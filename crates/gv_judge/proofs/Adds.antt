@@ -1,5 +1,5 @@
 -- What a turn adds, and what is added after it.
-use Rattle.std.proofs.Common.{◌≡◌, ℕ, ◌+◌, ◌<◌, zero, suc, List, [], ◌∷◌, ◌++◌, map, length, get_or, drop, Option, Some, None, refl, sym, ap, subst, ◌∙◌, arith}
+use Rattle.std.proofs.Common.{◌≡◌, Bool, true, eqb, eqb-true, ℕ, ◌+◌, ◌<◌, zero, suc, List, [], ◌∷◌, ◌++◌, map, length, get_or, drop, Option, Some, None, refl, sym, ap, subst, ◌∙◌, arith}
 use Rattle.std.specs.Prelude.{slice_get}
 use Rattle.std.proofs.lemmas.Option.{slice_get-get_or}
 use Rattle.gv_terms.specs.declared.tree.TermTree.{TermTree}
@@ -89,6 +89,16 @@ module _ (s : Spec) (fields : List Value) (c : Waiting) where
       same_from : (out : Option (List ℕ)) → lists_from s.store (op_before s o c.args.now fields) o.picks out ≡ from_op out
       same_from None = refl
       same_from (Some cs) = ap (λ x. cs ∷ later_of_op s x c.args.now fields cs) (sym op)
+
+pub none_left : {A : Type 0} (xs : List A) (b : Bool) → b ≡ eqb (length xs) 0 → b ≡ true → xs ≡ []
+none_left [] b e h = refl
+none_left (x ∷ xs) b e h = let none : length (x ∷ xs) ≡ 0 = eqb-true (length (x ∷ xs)) 0 (sym e ∙ h) in absurd (omega (arith, none))
+
+-- an operation that picks nothing has no other list of choices
+pub no_later_op : (s : Spec) (fields : List Value) (c : Waiting) (o : Op) (choices : List ℕ) → slice_get s.ops c.op ≡ Some o → o.picks ≡ []
+    → later_of_op s (slice_get s.ops c.op) c.args.now fields choices ≡ []
+no_later_op s fields c o choices op none =
+    ap (λ x. later_of_op s x c.args.now fields choices) op ∙ ap (λ ps. later_lists s.store (op_before s o c.args.now fields) ps choices) none
 
 -- the lists that come next, told of the same bindings
 pub lists_moved : (ts : List TermTree) (b d : List Binding) (picks : List Pick) (choices : List ℕ) (o : Option (List ℕ)) → b ≡ d → later_lists ts b picks choices ≡ lists_from ts b picks o

@@ -82,8 +82,12 @@ fn later_boot<'h>(
     ensures moves { IfOk result (λ o. turn_moves spec.now node.now o ≡ boots_later spec.now node.now choices.now) }
     ensures turn { IfOk result (IsLaterTurn spec.now node.now) }
 {
+    let picks = crash_parts(spec).0;
+    if picks.is_empty() {
+        return first_act(alloc, spec, node, 0);
+    }
     let before = crash_before(alloc, spec, node.fields.state())?;
-    match next_choices(alloc, &spec.store, before, crash_parts(spec).0, choices)? {
+    match next_choices(alloc, &spec.store, before, picks, choices)? {
         Some(choices) => Ok(Some(Turn::Boot { choices })),
         None => first_act(alloc, spec, node, 0),
     }
@@ -105,8 +109,12 @@ fn later_act<'h>(
     ensures turn { IfOk result (IsLaterTurn spec.now node.now) }
 {
     let op = operation(spec, call.op);
+    let picks = op.picks.as_slice();
+    if picks.is_empty() {
+        return first_act(alloc, spec, node, next);
+    }
     let before = op_before(alloc, spec, node.fields.state(), op, call.args.as_slice())?;
-    match next_choices(alloc, &spec.store, before, op.picks.as_slice(), choices)? {
+    match next_choices(alloc, &spec.store, before, picks, choices)? {
         Some(choices) => Ok(Some(Turn::Act {
             call,
             next,
