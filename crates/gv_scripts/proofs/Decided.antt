@@ -1,7 +1,6 @@
 -- A text spells a script, or is refused in one way, and not both.
 use Rattle.std.proofs.Common.{◌≡◌, ℕ, List, Option, Some, None, Result, Ok, Err, IfOk, IfErr, IsErrAnd, refl, sym, ap, subst, ◌∙◌}
 use Rattle.std.specs.Prelude.{slice_get}
-use Rattle.gv_base.specs.Codes.{code_number}
 use Rattle.gv_base.specs.Places.{place_at}
 use Rattle.gv_base.specs.declared.answers.Code.{Code}
 use Rattle.gv_base.specs.declared.answers.Refusal.{Refusal}
@@ -20,7 +19,7 @@ use Rattle.gv_scriptsyntax.specs.Language.{IsScript}
 use Rattle.gv_scriptparse.specs.Seen.{seen}
 use Rattle.gv_scriptparse.specs.Reading as grammar
 use Rattle.gv_scriptparse.proofs.Decided.{one_spelled, tree_only}
-use Rattle.gv_scriptnames.specs.Laws.{IsTyped, IsTypedOutline, IsRefusedAt}
+use Rattle.gv_scriptnames.specs.Laws.{IsTypedOutline, IsRefusedAt}
 use Rattle.gv_scriptnames.specs.declared.outline.Outline.{Outline}
 use Rattle.gv_typing.specs.declared.term_fault.Fault.{Fault}
 use Rattle.gv_scriptfaults.specs.First.{IsFirstFault}
