@@ -1,0 +1,13 @@
+//! Walks over left and right sides of assignments, by the nodes of a package's tree.
+//!
+//! What each wants and gives, and what is found in it, is defined in gv_gotypes. Of what is found a walk knows the one fault that
+//! is told.
+#![tactic(auto)]
+
+mod counted;
+mod rights;
+mod targets;
+
+pub use counted::{counted_at, update_at};
+pub use rights::right_at;
+pub use targets::{Target, start_at, target_at};
