@@ -1,0 +1,15 @@
+//! The names that are seen where a walk over a package stands: those of the package, and those of the scopes around.
+//!
+//! What a name stands for is defined in gv_gotypes. Each look-up takes no more steps where there are more names.
+#![tactic(auto)]
+
+mod declared;
+mod lookups;
+mod members;
+mod numbers;
+mod seen;
+
+pub use declared::{Declared, Procedure};
+pub use lookups::is_blank;
+pub use numbers::number_of;
+pub use seen::Seen;
