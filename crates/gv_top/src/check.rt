@@ -74,19 +74,9 @@ pub fn check<F: Files>(
     ensures kept { (other : Seq ℕ) → F.held files.new other ≡ F.held files.old other }
 {
     let package = read_file(alloc, &Packages {}, names.package, files, format)?;
-    let spec = read_file(
-        alloc,
-        &SpecsFor { package: &package },
-        names.spec,
-        files,
-        format,
-    )?;
-    let script = read_file(
-        alloc,
-        &ScriptsFor { package: &package },
-        names.script,
-        files,
-        format,
-    )?;
+    let specs = SpecsFor { package: &package };
+    let spec = read_file(alloc, &specs, names.spec, files, format)?;
+    let scripts = ScriptsFor { package: &package };
+    let script = read_file(alloc, &scripts, names.script, files, format)?;
     Ok(compared(&package, &spec, &script))
 }
