@@ -6,10 +6,13 @@
 mod declared;
 mod lookups;
 mod members;
+mod naming;
 mod numbers;
+mod scopes;
 mod seen;
 
 pub use declared::{Declared, Procedure};
 pub use lookups::is_blank;
+pub use naming::{declare_field, declare_name};
 pub use numbers::number_of;
 pub use seen::Seen;

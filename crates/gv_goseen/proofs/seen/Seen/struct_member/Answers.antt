@@ -17,24 +17,24 @@ returns-in-Some c =
     let name : List ℕ = c.args.name.now in
     let p : Package = package_of c.args.self.now.declared in
     let s : StructType = struct_in c.in-Some.table.now in
-    let got : slice_get c.args.self.now.declared.structs.items c.args.number ≡ Some c.in-Some.table.now = 
-        ap (λ (ts : List StructOf). slice_get ts c.args.number) (sym c.deref.ensures.value)
-        ∙ slice_get-get_or c.deref.result.now c.args.number c.in-Some.table.now c.in-Some.ensures.lookup.3.0
-        ∙ ap Some (sym c.in-Some.ensures.lookup.1) in
+    let got : slice_get c.args.self.now.declared.structs.items c.args.number ≡ Some c.in-Some.table.now =
+    ap (λ (ts : List StructOf). slice_get ts c.args.number) (sym c.deref.ensures.value)
+    ∙ slice_get-get_or c.deref.result.now c.args.number c.in-Some.table.now c.in-Some.ensures.lookup.3.0
+    ∙ ap Some (sym c.in-Some.ensures.lookup.1) in
     let here : slice_get p.structs c.args.number ≡ Some s = slice_get-map struct_in c.args.self.now.declared.structs.items c.args.number ∙ ap (option_map struct_in) got in
     let named : is_blank name ≡ false = search rules in
     let count : c.len.result ≡ length p.procedures = c.len.ensures ∙ c.args.self.now.declared.procedures.ok.0 ∙ sym (length-map c.args.self.now.declared.procedures.items signature_of) in
     let known : c.member_as.result ≡ member_by (length p.procedures) (member_among s.fields s.methods name) =
-        c.member_as.ensures ∙ ap (λ (r : Option MemberRow). member_by c.len.result r) c.member.ensures ∙ ap (λ (n : ℕ). member_by n (member_among s.fields s.methods name)) count in
+    c.member_as.ensures ∙ ap (λ (r : Option MemberRow). member_by c.len.result r) c.member.ensures ∙ ap (λ (n : ℕ). member_by n (member_among s.fields s.methods name)) count in
     subst (λ (o : Option StructType). IsMember c.member_as.result (option_and_then (λ s. struct_member p s name) o)) (sym here)
-        (subst (λ (k : Option Member). IsMember k (struct_member p s name)) (sym known) (members_so p s name named))
+    (subst (λ (k : Option Member). IsMember k (struct_member p s name)) (sym known) (members_so p s name named))
 
 pub returns-in-None : goal.returns-in-None
 returns-in-None c =
     let name : List ℕ = c.args.name.now in
     let p : Package = package_of c.args.self.now.declared in
-    let got : slice_get c.args.self.now.declared.structs.items c.args.number ≡ None = 
-        ap (λ (ts : List StructOf). slice_get ts c.args.number) (sym c.deref.ensures.value)
-        ∙ slice_get_past c.deref.result.now c.args.number c.in-None.ensures.lookup.3 in
+    let got : slice_get c.args.self.now.declared.structs.items c.args.number ≡ None =
+    ap (λ (ts : List StructOf). slice_get ts c.args.number) (sym c.deref.ensures.value)
+    ∙ slice_get_past c.deref.result.now c.args.number c.in-None.ensures.lookup.3 in
     let here : slice_get p.structs c.args.number ≡ None = slice_get-map struct_in c.args.self.now.declared.structs.items c.args.number ∙ ap (option_map struct_in) got in
     subst (λ (o : Option StructType). IsMember None (option_and_then (λ s. struct_member p s name) o)) (sym here) tt
