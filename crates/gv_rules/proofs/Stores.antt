@@ -20,6 +20,7 @@ use Rattle.gv_world.specs.declared.cell.Cell.{Cell}
 use Rattle.gv_world.specs.Answers.{and_then}
 use Rattle.gv_world.specs.Store.{Store as World}
 use Rattle.gv_world.specs.Cells.{as_written, with_mark, begin_write, end_write}
+use Rattle.gv_lang.specs.declared.program.ItemKind.{ItemKind}
 use Rattle.gv_lang.specs.Tree.{Expr, Store, Put, Put64, Append, MapPut, MapDelete, Do, Program}
 use Rattle.gv_lang.specs.Todo.{Todo, Run}
 use Rattle.gv_lang.specs.Threads.{Frame, Thread}
@@ -152,7 +153,7 @@ module _ (program : Program) (extra : ℕ) (w : World) (f : Frame) (below : List
 
 -- ---- what else holds in a world with one cell given anew
 
-base_with_cell : (o : Proof) (w : World) (g : Ghost) (m : Mode) (b : Bracket) (piece later pool : Piece) (locks : ℕ → Piece) (rest : Piece) (n field : ℕ) (c d : Cell) (h : HasCell w n field c)
+pub base_with_cell : (o : Proof) (w : World) (g : Ghost) (m : Mode) (b : Bracket) (piece later pool : Piece) (locks : ℕ → Piece) (rest : Piece) (n field : ℕ) (c d : Cell) (h : HasCell w n field c)
     → Base o w g m b piece pool locks rest
     → Fits (λ e. later e + (pool e + (of_locks w locks e + rest e))) (told (shape_of o) (with_cell w n field h.cells d) g) → Base o (with_cell w n field h.cells d) g m b later pool locks rest
 base_with_cell o w g m b piece later pool locks rest n field c d h base fits = record {
@@ -228,6 +229,13 @@ writes_same f _ p e of field where_at next n (puts_entry m' k' v' at' next' obje
 writes_same f _ p e of field where_at next n (deletes_entry m' k' at' next' object' is a b) todo found =
     (let never : Run (Do (MapDelete m' k') at') ∷ next' ≡ Run (Do (Store p of field e) where_at) ∷ next = sym is ∙ todo in absurd cc)
 
+-- a store is no append
+no_append : (f : Frame) (p e s v : Expr) (of field x : ℕ) (item : ItemKind) (place at : Place) (next after : Todo) → f.todo ≡ Run (Do (Store p of field e) place) ∷ next
+    → f.todo ≡ Run (Do (Append x item s v) at) ∷ after → ⊥
+no_append f p e s v of field x item place at next after is other =
+    let never : Run (Do (Store p of field e) place) ∷ next ≡ Run (Do (Append x item s v) at) ∷ after = sym is ∙ other in
+    cc
+
 -- ---- the law
 
 new_cell_stands : (preds : List Predicate) (env : Env) (object t : TermTree) (of n field : ℕ) (x : Value) → value_under env object ∷ value_under env (number field) ∷ [] ≡ val.Ref n ∷ val.Word field ∷ []
@@ -238,7 +246,7 @@ new_cell_stands preds env object t of n field x key is =
     (let s = single_same (Have kind.Cell (val.Ref n ∷ val.Word field ∷ []) (x ∷ [])) in omega arith)))
 
 -- the marks after the first step, and after the second
-still_begun : (w : World) (n field : ℕ) (c d : Cell) (h : HasCell w n field c) (f : Frame) (rest : Piece) → Writes f (CellAt n field) → AreOwned w rest
+pub still_begun : (w : World) (n field : ℕ) (c d : Cell) (h : HasCell w n field c) (f : Frame) (rest : Piece) → Writes f (CellAt n field) → AreOwned w rest
     → (t : Target) → IsMarked (with_cell w n field h.cells d) t → Writes f t ⊎ OwnsTarget rest t
 still_begun w n field c d h f rest mine still (CellAt object place) m = elim (marked_before w n field c d h object place m) [
   | inl (a, b) ↦ inl (subst (λ (i : ℕ). Writes f (CellAt object i)) (sym b) (subst (λ (k : ℕ). Writes f (CellAt k field)) (sym a) mine))
@@ -246,7 +254,7 @@ still_begun w n field c d h f rest mine still (CellAt object place) m = elim (ma
 ]
 still_begun w n field c d h f rest mine still (MapAt object) m = inr (still (MapAt object) (sym (kept_of w n field c d h map_mark (λ x y. refl) object) ∙ m))
 
-still_ended : (w : World) (n field : ℕ) (c d : Cell) (h : HasCell w n field c) → d.marked ≡ false → (f : Frame) (rest : Piece)
+pub still_ended : (w : World) (n field : ℕ) (c d : Cell) (h : HasCell w n field c) → d.marked ≡ false → (f : Frame) (rest : Piece)
     → ((t : Target) → Writes f t → t ≡ CellAt n field) → ((t : Target) → IsMarked w t → Writes f t ⊎ OwnsTarget rest t) → AreOwned (with_cell w n field h.cells d) rest
 still_ended w n field c d h free f rest only still (CellAt object place) m = elim (marked_before w n field c d h object place m) [
   | inl (a, b) ↦ absurd (new_unmarked w n field c d h free object place a b m)
@@ -288,6 +296,7 @@ stores_law o h k (stores p e object v t of field after place next may todo p_ter
           mine = λ target is. subst (λ (t : Target). OwnsTarget seat.piece t)
               (sym (writes_same f target p e of field place next a.n is (seat.described.todo ∙ todo) a.p_value)) (inl (value_under seat.env v ∷ [], omega arith));
           still = still_begun w a.n field a.found.cell marked a.there f rest (writes_cell p of field e place next a.n (seat.described.todo ∙ todo) a.p_value) seat.still;
+          spare = λ x item s u at after slice kept is found same. absurd (no_append f p e s u of field x item place at next after (seat.described.todo ∙ todo) is);
         }))
 
     end : (program : Program) (extra : ℕ) (w : World) (g : Ghost) (start : Env) (f : Frame) (below : List Frame) (rest : Piece) → BegunSeat o w g start f h rest

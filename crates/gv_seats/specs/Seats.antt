@@ -11,15 +11,17 @@ use Rattle.gv_terms.specs.Trees.{value_under}
 use Rattle.gv_world.specs.declared.cell.Cell.{Cell}
 use Rattle.gv_world.specs.Store as world
 use Rattle.gv_world.specs.Store.{Object, Disk, Store as World, block_bytes}
-use Rattle.gv_world.specs.Slices.{spare_place}
+use Rattle.gv_world.specs.Slices.{spare_place, has_spare}
 use Rattle.gv_spec.specs.Specification.{Specification}
 use Rattle.gv_spec.specs.Move.{entries_of}
 use Rattle.gv_spec.specs.Walks.{NeverCalled, Called, Acted, first_walk, walk_from}
 use Rattle.gv_base.specs.declared.answers.Place.{Place}
+use Rattle.gv_base.specs.declared.answer.Answer.TheVariants.{Next}
 use Rattle.gv_lang.specs.declared.program.ItemKind.{ItemKind}
 use Rattle.gv_lang.specs.Tree.{Expr, Store, Put, Put64, Append, MapPut, MapDelete, Do}
 use Rattle.gv_lang.specs.Todo.{Todo, Run}
 use Rattle.gv_lang.specs.Values.{value}
+use Rattle.gv_lang.specs.Table.{as_item}
 use Rattle.gv_lang.specs.Threads.{Frame}
 use Rattle.gv_resources.specs.Kinds as kind
 use Rattle.gv_resources.specs.Kinds.{Kind}
@@ -203,7 +205,7 @@ pub record Seat (o : Proof) (w : World) (g : Ghost) (start : Env) (f : Frame) (h
   pub still : AreOwned w rest
 
 -- The same in the middle of a write: the first step of the frame's next command is done. Its piece owns what the command writes; each write that has
--- begun is of that, or of what the rest owns.
+-- begun is of that, or of what the rest owns. An append begins only where there is a spare cell for its item.
 pub record BegunSeat (o : Proof) (w : World) (g : Ghost) (start : Env) (f : Frame) (h : Path) (rest : Piece) : Type 0 where
   pub env : Env
   pub piece : Piece
@@ -213,6 +215,8 @@ pub record BegunSeat (o : Proof) (w : World) (g : Ghost) (start : Env) (f : Fram
   pub base : Base o w g h.mode h.bracket piece pool locks rest
   pub mine : (t : Target) → Writes f t → OwnsTarget piece t
   pub still : (t : Target) → IsMarked w t → Writes f t ⊎ OwnsTarget rest t
+  pub spare : (x : ℕ) (item : ItemKind) (s v : Expr) (at : Place) (next : Todo) (slice : SliceVal) (kept : Val) → f.todo ≡ Run (Do (Append x item s v) at) ∷ next
+      → value f.locals s ≡ Some (stored.Slice slice) → as_item item (value f.locals v) ≡ Next kept → has_spare w slice kept ≡ true
 
 -- Two frames stand at two paths, beside each other and a rest.
 pub record Pair (o : Proof) (w : World) (g : Ghost) (start : Env) (f : Frame) (h : Path) (beginning : Env) (other : Frame) (k : Path) (rest : Piece) : Type 0 where
