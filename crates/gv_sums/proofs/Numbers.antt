@@ -1,14 +1,19 @@
 -- What numbered summands come to is what the summands do.
-use Rattle.std.proofs.Common.{◌≡◌, ℕ, zero, suc, ◌+◌, ◌<◌, List, [], ◌∷◌, ◌++◌, map, length, take, get_or, Bool, false, None, refl, sym, ap, ◌∙◌, arith}
-use Rattle.std.proofs.Math.IntN.{ℤ, ◌+ℤ◌, ◌-ℤ◌}
+use Rattle.std.proofs.Common.{◌≡◌, ◌⊎◌, inl, inr, if◌then◌else◌, ◌==◌, ℕ, zero, suc, ◌+◌, ◌<◌, ◌≤◌, List, [], ◌∷◌, ◌++◌, map, length, take, get_or, Bool, false, None, refl, sym, ap, subst, ◌∙◌, arith}
+use Rattle.std.proofs.Math.IntN.{ℤ, pos, ◌+ℤ◌, ◌-ℤ◌}
 use Rattle.std.proofs.lemmas.Int.{ints}
+use Rattle.std.proofs.lemmas.Bool.{cases_lt, cases_eq}
 use Rattle.std.proofs.lemmas.List.{take_more}
+use Rattle.std.proofs.lemmas.List.Elements.{All-nil, All-cons, All-append}
+use Rattle.std.proofs.lemmas.List.Quantifiers.{all_pairs_push}
 use Rattle.gv_terms.specs.declared.tree.TermTree.{TermTree}
-use Rattle.gv_certs.specs.Sums.{to_coefficient, to_constant, coefficient_of, constant_of, items_from, items_of, Comparison, row_summands, one_if, row_constant, row_of}
+use Rattle.gv_certs.specs.Sums.{to_coefficient, to_constant, coefficient_of, constant_of, items_from, Summands, Comparison, row_summands, one_if, row_of}
 use Rattle.gv_linear.specs.declared.row.Row.{Row}
+use Rattle.gv_linear.specs.Row.{coefficient}
+use Rattle.gv_linear.proofs.RowLemmas.{coefficient_of_none}
 use Rattle.gv_sums.specs.declared.summand.Summand.{Summand}
 use Rattle.gv_sums.specs.declared.summand.Numbered.{Numbered}
-use Rattle.gv_sums.specs.Reading.{sign_of, summands_at, numbered_at, coefficient_in, constant_in, items_in}
+use Rattle.gv_sums.specs.Reading.{sign_of, summands_at, numbered_at, coefficient_in, constant_in, AreItems, IsLike}
 
 abbrev pub no_number : Numbered
 no_number = record { negative = false; number = None; place = 0 }
@@ -26,11 +31,14 @@ pub constant_is : (st us : List TermTree) (ss : List Summand) → constant_in (m
 constant_is st us [] = refl
 constant_is st us (s ∷ ss) = ap (λ z. to_constant (sign_of s.negative) (numbered_at st us s).number +ℤ z) (constant_is st us ss)
 
-pub items_are : (st us : List TermTree) (u more : ℕ) (ss : List Summand) → items_in u more (map (numbered_at st us) ss) ≡ items_from us u more (summands_at st ss)
-items_are st us u zero ss = refl
-items_are st us u (suc more) ss =
-    ap (λ z. (u, z) ∷ items_in (suc u) more (map (numbered_at st us) ss)) (coefficient_is st us u ss)
-    ∙ ap (λ is. (u, coefficient_of us u (summands_at st ss)) ∷ is) (items_are st us (suc u) more ss)
+-- among the items of all unknowns
+pub coefficient_from : (us : List TermTree) (c u more : ℕ) (ss : Summands) → u ≤ c → c < u + more → coefficient c (items_from us u more ss) ≡ coefficient_of us c ss
+coefficient_from us c u zero ss low high = absurd (omega arith)
+coefficient_from us c u (suc more) ss low high =
+    elim (cases_eq u c) [ inl here ↦ grind (arith, here) | inr other ↦ later other (coefficient_from us c (suc u) more ss (omega (arith, low, other)) (omega (arith, high))) ]
+  where
+    later : (u ≡ c → ⊥) → coefficient c (items_from us (suc u) more ss) ≡ coefficient_of us c ss → coefficient c (items_from us u (suc more) ss) ≡ coefficient_of us c ss
+    later other rest = grind (arith, other, rest)
 
 -- ---- one more
 
@@ -53,29 +61,53 @@ constant_more ns i lt =
     let both = constant_append (take i ns) (get_or ns i no_number ∷ []) in
     ap constant_in (take_more ns i no_number lt) ∙ omega (arith, ints, both)
 
-pub item_more : (u more : ℕ) (ns : List Numbered) → items_in u (more + 1) ns ≡ items_in u more ns ++ (u + more, coefficient_in (u + more) ns) ∷ []
-item_more u zero ns = let one : 0 + 1 ≡ suc zero = omega arith in let same : u ≡ u + 0 = omega arith in ap (λ k. items_in u k ns) one ∙ ap (λ k. (k, coefficient_in k ns) ∷ []) same
-item_more u (suc more) ns =
-    let shift : suc u + more ≡ u + suc more = omega arith in
-    let longer : suc more + 1 ≡ suc (more + 1) = omega arith in
-    ap (λ k. items_in u k ns) longer ∙ ap (λ is. (u, coefficient_in u ns) ∷ is) (item_more (suc u) more ns ∙ ap (λ k. items_in (suc u) more ns ++ (k, coefficient_in k ns) ∷ []) shift)
+-- ---- items, one more
 
-pub next_item : (k : ℕ) (ns : List Numbered) (items more : List (ℕ × ℤ)) (z : ℤ) → items ≡ items_in 0 k ns → z ≡ coefficient_in k ns → more ≡ items ++ (k, z) ∷ [] → more ≡ items_in 0 (k + 1) ns
-next_item k ns items more z stand is e =
-    let same : 0 + k ≡ k = omega arith in
-    e ∙ ap (λ xs. xs ++ (k, z) ∷ []) stand ∙ ap (λ y. items_in 0 k ns ++ (k, y) ∷ []) is
-    ∙ sym (item_more 0 k ns ∙ ap (λ j. items_in 0 k ns ++ (j, coefficient_in j ns) ∷ []) same)
+abbrev Items : Type 0
+Items = List (ℕ × ℤ)
+
+last_item : (c u : ℕ) (z : ℤ) (items : Items) → ((k : ℕ) (d : ℕ × ℤ) → k < length items → (get_or items k d).0 < u) → u ≡ c → coefficient c (items ++ (u, z) ∷ []) ≡ z
+last_item c u z [] below e = grind (arith, e)
+last_item c u z (item ∷ items) below e =
+    let head : item.0 < u = below 0 item (omega arith) in
+    let tail : coefficient c (items ++ (u, z) ∷ []) ≡ z = last_item c u z items (λ k d l. below (suc k) d (omega arith)) e in
+    grind (arith, head, tail, e)
+
+other_item : (c u : ℕ) (z : ℤ) (items : Items) → (u ≡ c → ⊥) → coefficient c (items ++ (u, z) ∷ []) ≡ coefficient c items
+other_item c u z [] other = grind (arith, other)
+other_item c u z (item ∷ items) other = ap (λ y. if item.0 == c then item.1 else y) (other_item c u z items other)
+
+pub no_items : (n : ℕ) (ns : List Numbered) → ((c : ℕ) → 0 ≤ c → c < n → coefficient_in c ns ≡ pos 0) → AreItems n ns []
+no_items n ns none = record {
+  ascending = λ i j d l m. absurd (omega (arith, m));
+  below = λ k d l. absurd (omega (arith, l));
+  coefficients = λ c l. sym (none c (omega arith) l);
+}
+
+-- the next unknown that the summands have
+pub next_item : (u next : ℕ) (ns : List Numbered) (items more : List (ℕ × ℤ)) (z : ℤ) → AreItems u ns items → z ≡ coefficient_in u ns → u + 1 ≤ next
+    → ((c : ℕ) → u + 1 ≤ c → c < next → coefficient_in c ns ≡ pos 0) → more ≡ items ++ (u, z) ∷ [] → AreItems next ns more
+next_item u next ns items more z stand is low none e =
+    subst (AreItems next ns) (sym e) (record {
+      ascending = all_pairs_push (λ (i j : ℕ × ℤ). i.0 < j.0) items (u, z) stand.ascending stand.below;
+      below = All-append (λ (i : ℕ × ℤ). i.0 < next) items ((u, z) ∷ []) (λ k d l. let here = stand.below k d l in omega (arith, here, low))
+          (All-cons (λ (i : ℕ × ℤ). i.0 < next) (u, z) [] (omega (arith, low)) (All-nil (λ (i : ℕ × ℤ). i.0 < next)));
+      coefficients = λ c l. elim (cases_eq u c) [ inl here ↦ last_item c u z items stand.below here ∙ is ∙ ap (λ k. coefficient_in k ns) here | inr other ↦ other_item c u z items other ∙ around c l other (cases_lt c u) ];
+    })
+  where
+    around : (c : ℕ) → c < next → (u ≡ c → ⊥) → ((c < u) ⊎ (u ≤ c)) → coefficient c items ≡ coefficient_in c ns
+    around c l other (inl before) = stand.coefficients c before
+    around c l other (inr behind) =
+        coefficient_of_none c items (λ k d m f. let here = stand.below k d m in omega (arith, here, behind, f)) ∙ sym (none c (omega (arith, behind, other)) l)
 
 -- the parts of a row
 pub whole_row : (st sums us : List TermTree) (c : Comparison) (same : Bool) (ss : List Summand) (ns : List Numbered) (count : ℕ) (items : List (ℕ × ℤ)) (constant : ℤ)
-    → same ≡ c.same → summands_at st ss ≡ row_summands sums c → ns ≡ map (numbered_at st us) ss → count ≡ length us → items ≡ items_in 0 count ns → constant ≡ constant_in ns -ℤ one_if c.strict
-    → make same items constant ≡ row_of sums us c
-whole_row st sums us c same ss ns count items constant e told numbered counted is sum =
-    let of_items : items ≡ items_of us (row_summands sums c) =
-    is ∙ ap (λ k. items_in 0 k ns) counted ∙ ap (items_in 0 (length us)) numbered ∙ items_are st us 0 (length us) ss ∙ ap (items_from us 0 (length us)) told in
-    let of_constant : constant ≡ row_constant sums c =
-    sum ∙ ap (λ xs. constant_in xs -ℤ one_if c.strict) numbered ∙ ap (λ z. z -ℤ one_if c.strict) (constant_is st us ss ∙ ap constant_of told) in
-    as_row same c.same items (items_of us (row_summands sums c)) constant (row_constant sums c) e of_items of_constant
-  where
-    as_row : (a b : Bool) (x y : List (ℕ × ℤ)) (v w : ℤ) → a ≡ b → x ≡ y → v ≡ w → make a x v ≡ make b y w
-    as_row a b x y v w e f g = ap (λ r. make r x v) e ∙ ap (λ r. make b r v) f ∙ ap (make b y) g
+    → same ≡ c.same → summands_at st ss ≡ row_summands sums c → ns ≡ map (numbered_at st us) ss → count ≡ length us → AreItems count ns items → constant ≡ constant_in ns -ℤ one_if c.strict
+    → IsLike count (make same items constant) (row_of sums us c)
+whole_row st sums us c same ss ns count items constant e told numbered counted is sum = record {
+  same = e;
+  constant = sum ∙ ap (λ xs. constant_in xs -ℤ one_if c.strict) numbered ∙ ap (λ z. z -ℤ one_if c.strict) (constant_is st us ss ∙ ap constant_of told);
+  order = record { ascending = is.ascending; below = is.below };
+  coefficients = λ k l. is.coefficients k l ∙ ap (coefficient_in k) numbered ∙ coefficient_is st us k ss ∙ ap (coefficient_of us k) told
+      ∙ sym (coefficient_from us k 0 (length us) (row_summands sums c) (omega arith) (omega (arith, l, counted)));
+}

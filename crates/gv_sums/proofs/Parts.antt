@@ -17,18 +17,18 @@ use Rattle.gv_certs.specs.declared.fault.RuleFault.TheVariants as fault
 use Rattle.gv_terms.specs.declared.operator.Operator.TheVariants as op
 use Rattle.gv_certs.specs.Trees.{over_two, parts_under, and_pass}
 use Rattle.gv_certs.specs.Known.{is_known}
-use Rattle.gv_certs.specs.Sums.{is_sum, Comparison, comparison_of, order_of, denied, row_of}
+use Rattle.gv_certs.specs.Sums.{is_sum, Comparison, comparison_of, order_of, denied}
 use Rattle.gv_certs.specs.Proving.{Premise, AllHold, FirstFails, row_premises, with_comparison, comparisons, all_rows, matrix, unknowns, are_narrow_sums, order_premises, sum_premises, factors, Sum, Answers, linear, Proves}
 use Rattle.gv_linear.specs.declared.row.Row.{Row}
 use Rattle.gv_linear.specs.Row.{IsInOrder}
 use Rattle.gv_linear.specs.Answer.{IsAnswer}
-use Rattle.gv_certs.proofs.Rows.{in_order}
+use Rattle.gv_sums.proofs.Alike.{length_like, rows_in_order, answer_like}
 use Rattle.gv_side.specs.Telling.{IsFault}
 use Rattle.gv_side.proofs.Lists.{all_append, fault_in_front, fault_behind, trees_same}
 use Rattle.gv_known.proofs.Nodes.{tree_kept}
 use Rattle.gv_sums.specs.declared.factored.FactoredTerm.{FactoredTerm}
 use Rattle.gv_sums.specs.declared.comparison.Compared.{Compared}
-use Rattle.gv_sums.specs.Reading.{comparison_at, comparisons_at, IsWithin, row_at, formulas_in, sum_at}
+use Rattle.gv_sums.specs.Reading.{AreLike, rows_over, comparison_at, comparisons_at, IsWithin, row_at, formulas_in, sum_at, factors_of}
 use Rattle.gv_sums.specs.Telling.{is_sum_of, row_asks, later_premises, IsShown, IsLaterFault, IsFaultOf, IsFailure}
 
 abbrev pub none : Term
@@ -154,12 +154,15 @@ sum_kept old new facts t within lt grows =
 
 -- ---- rows in order
 
-pub all_in_order : (sums us : List TermTree) (cs : List Comparison) → All (IsInOrder (length us)) (map (row_of sums us) cs)
-all_in_order sums us [] = All-nil (IsInOrder (length us))
-all_in_order sums us (c ∷ cs) = All-cons (IsInOrder (length us)) (row_of sums us c) (map (row_of sums us) cs) (in_order sums us c) (all_in_order sums us cs)
+pub in_order_here : (rows rows' : List Row) (n m : ℕ) → AreLike m rows rows' → n ≡ m → All (IsInOrder n) rows
+in_order_here rows rows' n m like e = subst (λ k. All (IsInOrder k) rows) (sym e) (rows_in_order m rows rows' like)
 
-pub in_order_here : (sums us : List TermTree) (cs : List Comparison) (rows : List Row) (n : ℕ) → rows ≡ map (row_of sums us) cs → n ≡ length us → All (IsInOrder n) rows
-in_order_here sums us cs rows n e f = subst (λ k. All (IsInOrder k) rows) (sym f) (subst (All (IsInOrder (length us))) (sym e) (all_in_order sums us cs))
+pub length_here : (st : List TermTree) (sums us : List Term) (cs : List Compared) (rows : List Row) (m : ℕ) → AreLike m rows (rows_over st sums us cs) → length rows ≡ length cs
+length_here st sums us cs rows m like = length_like m rows (rows_over st sums us cs) like ∙ rows_length cs
+  where
+    rows_length : (ds : List Compared) → length (rows_over st sums us ds) ≡ length ds
+    rows_length [] = refl
+    rows_length (d ∷ ds) = ap suc (rows_length ds)
 
 trees_length : (st : List TermTree) (ts : List Term) → length (trees_at st ts) ≡ length ts
 trees_length st [] = refl
@@ -168,9 +171,15 @@ trees_length st (t ∷ ts) = ap suc (trees_length st ts)
 pub count_is : (st us : List TermTree) (ts : List Term) (n : ℕ) → n ≡ length ts → trees_at st ts ≡ us → n ≡ length us
 count_is st us ts n e f = e ∙ sym (trees_length st ts) ∙ ap length f
 
-pub answer_here : (rows rows' : List Row) (factors factors' : List ℤ) (n n' : ℕ) (answer : Linear) → rows ≡ rows' → factors ≡ factors' → n ≡ n' → IsAnswer rows factors n answer → IsAnswer rows' factors' n' answer
-answer_here rows rows' factors factors' n n' answer e f g h =
-    subst (λ r. IsAnswer r factors' n' answer) e (subst (λ x. IsAnswer rows x n' answer) f (subst (λ k. IsAnswer rows factors k answer) g h))
+pub answer_here : (rows rows' rows'' : List Row) (factors factors' : List ℤ) (n m n' : ℕ) (answer : Linear) → AreLike m rows rows' → n ≡ m → rows' ≡ rows'' → factors ≡ factors' → n ≡ n'
+    → IsAnswer rows factors n answer → IsAnswer rows'' factors' n' answer
+answer_here rows rows' rows'' factors factors' n m n' answer like e is f g h =
+    let here : IsAnswer rows' factors n answer = answer_like n rows rows' factors (subst (λ k. AreLike k rows rows') (sym e) like) answer h in
+    subst (λ r. IsAnswer r factors' n' answer) is (subst (λ x. IsAnswer rows' x n' answer) f (subst (λ k. IsAnswer rows' factors k answer) g here))
+
+pub factors_length : (rows : List FactoredTerm) → length (factors_of rows) ≡ length rows + 1
+factors_length [] = omega arith
+factors_length (r ∷ rows) = let rest = factors_length rows in omega (arith, rest)
 
 -- the last comparison is the goal denied
 pub with_denied : (st : List TermTree) (cs ds : List Compared) (rows : List FactoredTerm) (sums : List Term) (c : Compared) (o : Comparison) → comparisons_at st cs ≡ comparisons (map (row_at st) rows)

@@ -1,5 +1,5 @@
 -- Sums, comparisons and rows over terms of a store, and what each stands for.
-use Rattle.std.specs.Prelude.{◌≡◌, ◌⊎◌, Some, ℕ, zero, suc, ◌<◌, ◌^◌, length, List, [], ◌∷◌, ◌++◌, map, Bool, true, false, not, Option, ℤ, pos, neg_ℤ, ◌+ℤ◌}
+use Rattle.std.specs.Prelude.{◌≡◌, ◌⊎◌, Some, ℕ, ◌<◌, ◌^◌, length, List, [], ◌∷◌, ◌++◌, map, Bool, true, false, not, Option, ℤ, pos, neg_ℤ, ◌+ℤ◌}
 use Rattle.gv_terms.specs.declared.term.Term.{Term}
 use Rattle.gv_terms.specs.declared.tree.TermTree.{TermTree}
 use Rattle.gv_terms.specs.Store.{tree_at, trees_at}
@@ -7,7 +7,9 @@ use Rattle.gv_terms.specs.declared.operator.Operator.{Operator}
 use Rattle.gv_terms.specs.declared.operator.Operator.TheVariants as op
 use Rattle.gv_certs.specs.Trees.{parts_under, over_two}
 use Rattle.gv_certs.specs.Sums.{Summands, summands, taken_away, number_in, place_in, with_unknown, with_unknowns, row_of, compared_as, of_words, to_constant, to_coefficient, Comparison}
+use Rattle.std.specs.List.{All, AllPairs}
 use Rattle.gv_linear.specs.declared.row.Row.{Row}
+use Rattle.gv_linear.specs.Row.{coefficient, IsInOrder}
 use Rattle.gv_linear.specs.declared.answer.Linear.{Linear}
 use Rattle.gv_linear.specs.Answer.{IsAnswer}
 use Rattle.gv_certs.specs.Proving.{Sum, sides, unknowns_in, unknowns, matrix, Certificate, linear}
@@ -65,9 +67,11 @@ abbrev pub coefficient_in : ℕ → List Numbered → ℤ
 coefficient_in u [] = pos 0
 coefficient_in u (n ∷ ns) = to_coefficient u (sign_of n.negative) n.place n.number +ℤ coefficient_in u ns
 
-abbrev pub items_in : ℕ → ℕ → List Numbered → List (ℕ × ℤ)
-items_in u zero ns = []
-items_in u (suc more) ns = (u, coefficient_in u ns) ∷ items_in (suc u) more ns
+-- items of the unknowns below a number, with the coefficients that the summands have
+pub record AreItems (n : ℕ) (ns : List Numbered) (items : List (ℕ × ℤ)) : Type 0 where
+  pub ascending : AllPairs (λ i j. i.0 < j.0) items
+  pub below : All (λ i. i.0 < n) items
+  pub coefficients : (c : ℕ) → c < n → coefficient c items ≡ coefficient_in c ns
 
 abbrev pub constant_in : List Numbered → ℤ
 constant_in [] = pos 0
@@ -91,6 +95,20 @@ row_over st sums us c = row_of (trees_at st sums) (trees_at st us) (comparison_a
 
 abbrev pub rows_over : List TermTree → List Term → List Term → List Compared → List Row
 rows_over st sums us cs = map (row_of (trees_at st sums) (trees_at st us)) (comparisons_at st cs)
+
+-- a row in order says what another one says: of the unknowns below a number both have the same coefficients
+pub record IsLike (n : ℕ) (r s : Row) : Type 0 where
+  pub same : r.same ≡ s.same
+  pub constant : r.constant ≡ s.constant
+  pub order : IsInOrder n r
+  pub coefficients : (c : ℕ) → c < n → coefficient c r.items ≡ coefficient c s.items
+
+-- as many rows as others, each like the one at its place
+abbrev pub AreLike : ℕ → List Row → List Row → Type 0
+AreLike n [] [] = Unit {0}
+AreLike n (r ∷ rs) (s ∷ ss) = IsLike n r s × AreLike n rs ss
+AreLike n [] (s ∷ ss) = ⊥
+AreLike n (r ∷ rs) [] = ⊥
 
 -- what is so where an order is not
 abbrev pub denied_of : Compared → Compared

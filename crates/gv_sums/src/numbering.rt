@@ -1,9 +1,9 @@
 //! Summands by the numbers of their unknowns, and what they come to in a row.
 
-ghost use Rattle.std.specs.Prelude.{◌≡◌, ◌<◌, ◌^◌, ◌-ℤ◌, length, map, IfOk};
+ghost use Rattle.std.specs.Prelude.{◌≡◌, ℕ, ◌<◌, ◌≤◌, ◌^◌, ◌-ℤ◌, pos, length, map, IfOk};
 ghost use Rattle.gv_terms.specs.Store.{trees_at, AreIn};
 ghost use Rattle.gv_certs.specs.Sums as spec;
-ghost use Rattle.gv_sums.specs.Reading.{sign_of, numbered_at, coefficient_in, constant_in, items_in, terms_in, AreWords};
+ghost use Rattle.gv_sums.specs.Reading.{sign_of, numbered_at, coefficient_in, constant_in, terms_in, AreItems, AreWords};
 
 use crate::summand::{Numbered, Summand};
 use crate::unknowns::{number_in, place_in};
@@ -55,6 +55,20 @@ impl Numbered {
         }
     }
 
+    // The place of its unknown, where that is from one on and before another; else the other.
+    fn earlier(self, from: u32, next: u32) -> u32
+        requires { from ≤ next }
+        ensures low { from ≤ result }
+        ensures high { result ≤ next }
+        ensures between { (c : ℕ) → from ≤ c → c < result → spec.to_coefficient c (sign_of self.negative) self.place self.number ≡ pos 0 }
+    {
+        if self.number.is_none() && from as usize <= self.place && self.place < next as usize {
+            self.place as u32
+        } else {
+            next
+        }
+    }
+
     // What it adds to the constant.
     fn to_constant(self) -> i128
         ensures { result ≡ spec.to_constant (sign_of self.negative) self.number }
@@ -102,18 +116,34 @@ pub(crate) fn row_constant(summands: &[Numbered], strict: bool) -> i128
     if strict { sum - 1 } else { sum }
 }
 
-/// The unknowns from 0 on, so many, each with its coefficient.
+// The next unknown from one on that is among the summands, or how many unknowns there are.
+fn next_unknown(summands: &[Numbered], unknowns: u32, from: u32) -> u32
+    requires { from ≤ unknowns }
+    ensures low { from ≤ result }
+    ensures high { result ≤ unknowns }
+    ensures between { (c : ℕ) → from ≤ c → c < result → coefficient_in c summands.now ≡ pos 0 }
+{
+    let mut next = unknowns;
+    for i in 0..summands.len() {
+        next = summands[i].earlier(from, next);
+    }
+    next
+}
+
+/// The unknowns that are among the summands, in order, each with its coefficient.
 pub(crate) fn items(
     alloc: Global,
     summands: &[Numbered],
     unknowns: u32,
 ) -> Result<Vec<(u32, i128)>, NoMemory>
     requires { length summands.now < 2 ^ 33 }
-    ensures { IfOk result (λ v. v.items ≡ items_in 0 unknowns summands.now) }
+    ensures { IfOk result (λ v. AreItems unknowns summands.now v.items) }
 {
     let mut items = Vec::new(alloc);
-    for unknown in 0..unknowns {
+    let mut unknown = next_unknown(summands, unknowns, 0);
+    while unknown < unknowns {
         items.push((unknown, coefficient(summands, unknown as usize)))?;
+        unknown = next_unknown(summands, unknowns, unknown + 1);
     }
     Ok(items)
 }

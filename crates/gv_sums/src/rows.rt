@@ -4,7 +4,7 @@ ghost use Rattle.std.specs.Prelude.{◌≡◌, ◌<◌, ◌^◌, length, map, If
 ghost use Rattle.std.specs.List.{All};
 ghost use Rattle.gv_terms.specs.Store.{trees_at, AreIn};
 ghost use Rattle.gv_certs.specs.Sums as spec;
-ghost use Rattle.gv_sums.specs.Reading.{comparison_at, row_over, rows_over, IsWithin, summands_at, terms_in};
+ghost use Rattle.gv_sums.specs.Reading.{comparison_at, row_over, rows_over, IsLike, AreLike, IsWithin, summands_at, terms_in};
 
 use crate::comparison::Compared;
 use crate::numbering::{items, numbered, row_constant};
@@ -37,7 +37,7 @@ fn distance(
     Ok(summands)
 }
 
-// The row of a comparison over unknowns.
+// The row of a comparison over unknowns, with an item for those alone that the comparison has.
 fn row(
     alloc: Global,
     store: &TermStore,
@@ -49,7 +49,7 @@ fn row(
     requires unknowns { AreIn store.now unknowns.now }
     requires few { length unknowns.now < 2 ^ 32 }
     requires within { IsWithin store.now comparison }
-    ensures told { IfOk result (λ r. r ≡ row_over store.now sums.now unknowns.now comparison) }
+    ensures told { IfOk result (λ r. IsLike (length unknowns.now) r (row_over store.now sums.now unknowns.now comparison)) }
 {
     let summands = distance(alloc, store, sums, comparison)?;
     let all = numbered(alloc, store, unknowns, summands.as_slice())?;
@@ -62,7 +62,7 @@ fn row(
     })
 }
 
-/// The rows of comparisons over unknowns, in order.
+/// The rows of comparisons over unknowns, in order, each with items for its own unknowns alone.
 pub(crate) fn rows(
     alloc: Global,
     store: &TermStore,
@@ -74,7 +74,7 @@ pub(crate) fn rows(
     requires unknowns { AreIn store.now unknowns.now }
     requires few { length unknowns.now < 2 ^ 32 }
     requires within { All (IsWithin store.now) comparisons.now }
-    ensures told { IfOk result (λ v. v.items ≡ rows_over store.now sums.now unknowns.now comparisons.now) }
+    ensures told { IfOk result (λ v. AreLike (length unknowns.now) v.items (rows_over store.now sums.now unknowns.now comparisons.now)) }
 {
     let mut rows = Vec::new(alloc);
     for i in 0..comparisons.len() {

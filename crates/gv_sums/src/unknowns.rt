@@ -4,7 +4,8 @@ ghost use Rattle.std.specs.Prelude.{◌≡◌, ◌<◌, length, IfOk};
 ghost use Rattle.gv_terms.specs.Store.{tree_at, trees_at, AreIn};
 ghost use Rattle.gv_certs.specs.Sums as spec;
 ghost use Rattle.std.specs.List.{All};
-ghost use Rattle.gv_sums.specs.Reading.{summands_at, summands_of, added_to, with_all, with_terms, unknowns_at, terms_in, sides_in, IsWithin, IsShort, AreShort, AllShort};
+ghost use Rattle.gv_sums.specs.Reading.{summands_at, summands_of, added_to, with_all, with_terms, unknowns_at, terms_in, sides_in};
+ghost use Rattle.gv_sums.specs.Reading.{IsWithin, IsShort, AreShort, AllShort};
 
 use crate::comparison::Compared;
 use crate::summand::Summand;
