@@ -13,7 +13,8 @@ use anyhow::{Result, bail};
 use gv_base::{List, Name};
 use gv_certs::{Cert, Factored, Have};
 use gv_have::{formula, have};
-use gv_terms::{Operator, RawTerm, Scope, Sort, Term, TermStore};
+use gv_known::Facts;
+use gv_terms::{Operator, RawTerm, Scope, Sort, TermStore};
 use std::alloc::Global;
 use std::env;
 
@@ -139,16 +140,16 @@ fn given(
     scope: &Scope,
     what: &str,
     count: u64,
-) -> Result<Vec<Term>>
-    ensures { IfOk result (λ v. AreIn store.new v.items) }
+) -> Result<Facts>
+    ensures { IfOk result (λ v. AreIn store.new v) }
 {
-    let mut facts = Vec::new(alloc);
+    let mut facts = Facts::new(alloc);
     for number in 0..count {
         let raw = fact(alloc, what, number)?;
         let Ok(made) = formula(alloc, store, scope, &raw) else {
             bail!("a fact that is no formula");
         };
-        facts.push(made)?;
+        facts.push(store, made)?;
     }
     Ok(facts)
 }

@@ -2,10 +2,12 @@
 use Rattle.std.specs.Prelude.{◌≡◌, List, Option, Some, None}
 use Rattle.std.specs.List.{All}
 use Rattle.gv_terms.specs.declared.var.Var.{Var}
+use Rattle.gv_terms.specs.declared.term.Term.{Term}
 use Rattle.gv_terms.specs.declared.tree.RawTerm.{RawTerm}
 use Rattle.gv_terms.specs.declared.tree.TermTree.{TermTree}
 use Rattle.gv_terms.specs.declared.value.Env.{Env}
 use Rattle.gv_terms.specs.Ranges.{IsValuation}
+use Rattle.gv_terms.specs.Store.{tree_at, trees_at}
 use Rattle.gv_axioms.specs.Truth.{IsTrueUnder}
 use Rattle.gv_certs.specs.declared.cause.Cause.TheVariants as cause
 use Rattle.gv_certs.specs.declared.cert.Cert.{Cert}
@@ -36,6 +38,13 @@ IsProof o facts f = (c : Certificate) → o ≡ Some c → Proves facts f c
 -- or its first premise that fails has this cause, if memory was not refused
 abbrev pub IsNoProof : Option Certificate → List TermTree → TermTree → RuleFault → Type 0
 IsNoProof o facts f e = (c : Certificate) → o ≡ Some c → IsFailure facts f c e
+
+-- the same of facts and a formula that are terms of a store
+abbrev pub IsProofAt : Option Certificate → List TermTree → List Term → Term → Type 0
+IsProofAt o st facts goal = IsProof o (trees_at st facts) (tree_at st goal.id)
+
+abbrev pub IsNoProofAt : Option Certificate → List TermTree → List Term → Term → RuleFault → Type 0
+IsNoProofAt o st facts goal e = IsNoProof o (trees_at st facts) (tree_at st goal.id) e
 
 -- ---- the whole
 

@@ -11,6 +11,7 @@ use crate::scoping::check_scope;
 use crate::terms::formula;
 use gv_base::{List, NoMemory};
 use gv_certs::{Cert, RuleFault};
+use gv_known::Facts;
 use gv_terms::{Head, MakeFault, Node, Operator, RawTerm, Scope, Term, TermStore};
 use std::alloc::Global;
 
@@ -22,17 +23,17 @@ pub fn have(
     alloc: Global,
     store: &mut TermStore,
     scope: &Scope,
-    facts: &mut Vec<Term>,
+    facts: &mut Facts,
     goal: &RawTerm,
     cert: &Cert,
 ) -> Result<(), RuleFault>
-    requires facts { AreIn store.old facts.old.items }
-    ensures shown { IfOk result (λ _. spec.Shows scope.now (trees_at store.old facts.old.items) goal.now cert.now) }
-    ensures meant { IfOk result (λ _. Follows (trees_at store.old facts.old.items) (spec.formula_of scope.now goal.now)) }
-    ensures added { IfOk result (λ _. IsAdded (trees_at store.old facts.old.items) (spec.formula_of scope.now goal.now) (trees_at store.new facts.new.items)) }
-    ensures within { AreIn store.new facts.new.items }
-    ensures cause { IfErr result (IsFault scope.now (trees_at store.old facts.old.items) goal.now cert.now) }
-    ensures kept { OnErr result (facts.new.items ≡ facts.old.items) }
+    requires facts { AreIn store.old facts.old }
+    ensures shown { IfOk result (λ _. spec.Shows scope.now (trees_at store.old facts.old) goal.now cert.now) }
+    ensures meant { IfOk result (λ _. Follows (trees_at store.old facts.old) (spec.formula_of scope.now goal.now)) }
+    ensures added { IfOk result (λ _. IsAdded (trees_at store.old facts.old) (spec.formula_of scope.now goal.now) (trees_at store.new facts.new)) }
+    ensures within { AreIn store.new facts.new }
+    ensures cause { IfErr result (IsFault scope.now (trees_at store.old facts.old) goal.now cert.now) }
+    ensures kept { OnErr result (facts.new ≡ facts.old) }
     ensures grows { Grows store.old store.new }
 {
     let known = facts.len();
@@ -41,7 +42,7 @@ pub fn have(
     let proved = prove(alloc, store, scope, facts, goal, cert);
     facts.truncate(known);
     proved?;
-    facts.push(goal)?;
+    facts.push(store, goal)?;
     Ok(())
 }
 
@@ -68,14 +69,14 @@ pub fn absurd(
     alloc: Global,
     store: &mut TermStore,
     scope: &Scope,
-    facts: &mut Vec<Term>,
+    facts: &mut Facts,
     cert: &Cert,
 ) -> Result<(), RuleFault>
-    requires facts { AreIn store.old facts.old.items }
-    ensures shown { IfOk result (λ _. spec.ShowsAbsurd scope.now (trees_at store.old facts.old.items) cert.now) }
-    ensures meant { IfOk result (λ _. AreContradictory (trees_at store.old facts.old.items)) }
-    ensures cause { IfErr result (IsAbsurdFault scope.now (trees_at store.old facts.old.items) cert.now) }
-    ensures kept { facts.new.items ≡ facts.old.items }
+    requires facts { AreIn store.old facts.old }
+    ensures shown { IfOk result (λ _. spec.ShowsAbsurd scope.now (trees_at store.old facts.old) cert.now) }
+    ensures meant { IfOk result (λ _. AreContradictory (trees_at store.old facts.old)) }
+    ensures cause { IfErr result (IsAbsurdFault scope.now (trees_at store.old facts.old) cert.now) }
+    ensures kept { facts.new ≡ facts.old }
     ensures grows { Grows store.old store.new }
 {
     let known = facts.len();

@@ -4,11 +4,11 @@ ghost use Rattle.std.specs.Prelude.{◌≡◌, ◌<◌, ◌∷◌, [], length, S
 ghost use Rattle.gv_terms.specs.Store.{tree_at, trees_at, AreIn, Grows};
 ghost use Rattle.gv_certs.specs.Proving as proving;
 ghost use Rattle.gv_have.specs.Scoping as spec;
-ghost use Rattle.gv_have.specs.Telling.{IsProof, IsNoProof};
+ghost use Rattle.gv_have.specs.Telling.{IsProof, IsNoProof, IsProofAt, IsNoProofAt};
 
 use crate::terms::{all_terms, formula, rows, sides};
 use gv_certs::{Cause, Factored, RuleFault};
-use gv_known::computes;
+use gv_known::{Facts, computes};
 use gv_side::{ask, ask_known, by_axiom, contra, subst, subst_in};
 use gv_sums::linear;
 use gv_terms::{RawTerm, Scope, Term, TermStore};
@@ -18,7 +18,7 @@ use std::alloc::Global;
 pub(crate) fn by_known(
     alloc: Global,
     store: &TermStore,
-    facts: &[Term],
+    facts: &Facts,
     goal: Term,
 ) -> Result<(), RuleFault>
     requires facts { AreIn store.now facts.now }
@@ -33,7 +33,7 @@ pub(crate) fn by_known(
 pub(crate) fn by_computing(
     alloc: Global,
     store: &TermStore,
-    facts: &[Term],
+    facts: &Facts,
     goal: Term,
 ) -> Result<(), RuleFault>
     requires goal { goal.id < length store.now }
@@ -48,7 +48,7 @@ pub(crate) fn by_instance(
     alloc: Global,
     store: &mut TermStore,
     scope: &Scope,
-    facts: &[Term],
+    facts: &Facts,
     goal: Term,
     number: u32,
     parts: &[RawTerm],
@@ -68,7 +68,7 @@ pub(crate) fn by_equals_in(
     alloc: Global,
     store: &mut TermStore,
     scope: &Scope,
-    facts: &[Term],
+    facts: &Facts,
     goal: Term,
     from: &RawTerm,
     to: &RawTerm,
@@ -76,8 +76,8 @@ pub(crate) fn by_equals_in(
 ) -> Result<(), RuleFault>
     requires facts { AreIn store.old facts.now }
     requires goal { goal.id < length store.old }
-    ensures holds { IfOk result (λ _. IsProof (spec.equals_in scope.now from.now to.now within.now) (trees_at store.old facts.now) (tree_at store.old goal.id)) }
-    ensures cause { IfErr result (IsNoProof (spec.equals_in scope.now from.now to.now within.now) (trees_at store.old facts.now) (tree_at store.old goal.id)) }
+    ensures holds { IfOk result (λ _. IsProofAt (spec.equals_in scope.now from.now to.now within.now) store.old facts.now goal) }
+    ensures cause { IfErr result (IsNoProofAt (spec.equals_in scope.now from.now to.now within.now) store.old facts.now goal) }
     ensures grows { Grows store.old store.new }
 {
     let pair = sides(alloc, store, scope, from, to)?;
@@ -90,7 +90,7 @@ pub(crate) fn by_equals(
     alloc: Global,
     store: &mut TermStore,
     scope: &Scope,
-    facts: &[Term],
+    facts: &Facts,
     goal: Term,
     from: &RawTerm,
     to: &RawTerm,
@@ -110,7 +110,7 @@ pub(crate) fn by_opposites(
     alloc: Global,
     store: &mut TermStore,
     scope: &Scope,
-    facts: &[Term],
+    facts: &Facts,
     goal: Term,
     opposite: &RawTerm,
 ) -> Result<(), RuleFault>
@@ -129,7 +129,7 @@ pub(crate) fn by_rows(
     alloc: Global,
     store: &mut TermStore,
     scope: &Scope,
-    facts: &[Term],
+    facts: &Facts,
     goal: Term,
     sums: &[RawTerm],
     factored: &[Factored],

@@ -10,15 +10,16 @@ use crate::leaves::{
 };
 use crate::terms::formula;
 use gv_certs::{Cert, RuleFault};
+use gv_known::Facts;
 use gv_side::negation;
 use gv_terms::{Scope, Term, TermStore};
 use std::alloc::Global;
 
 // Takes away the facts behind the first ones, which are terms of the store.
-fn cut_to(_store: &TermStore, facts: &mut Vec<Term>, known: usize)
-    requires { AreIn _store.now (take known facts.old.items) }
-    ensures within { AreIn _store.now facts.new.items }
-    ensures kept { facts.new.items ≡ take known facts.old.items }
+fn cut_to(_store: &TermStore, facts: &mut Facts, known: usize)
+    requires { AreIn _store.now (take known facts.old) }
+    ensures within { AreIn _store.now facts.new }
+    ensures kept { facts.new ≡ take known facts.old }
 {
     facts.truncate(known);
 }
@@ -30,45 +31,32 @@ pub(crate) fn prove(
     alloc: Global,
     store: &mut TermStore,
     scope: &Scope,
-    facts: &mut Vec<Term>,
+    facts: &mut Facts,
     goal: Term,
     cert: &Cert,
 ) -> Result<(), RuleFault>
-    requires facts { AreIn store.old facts.old.items }
+    requires facts { AreIn store.old facts.old }
     requires goal { goal.id < length store.old }
-    ensures holds { IfOk result (λ _. IsProof (certificate_of scope.now cert.now) (trees_at store.old facts.old.items) (tree_at store.old goal.id)) }
-    ensures cause { IfErr result (IsNoProof (certificate_of scope.now cert.now) (trees_at store.old facts.old.items) (tree_at store.old goal.id)) }
-    ensures kept { take (length facts.old.items) facts.new.items ≡ facts.old.items }
+    ensures holds { IfOk result (λ _. IsProof (certificate_of scope.now cert.now) (trees_at store.old facts.old) (tree_at store.old goal.id)) }
+    ensures cause { IfErr result (IsNoProof (certificate_of scope.now cert.now) (trees_at store.old facts.old) (tree_at store.old goal.id)) }
+    ensures kept { take (length facts.old) facts.new ≡ facts.old }
     ensures grows { Grows store.old store.new }
 {
     match cert {
-        Cert::Known => by_known(alloc, store, facts.as_slice(), goal),
-        Cert::Compute => by_computing(alloc, store, facts.as_slice(), goal),
+        Cert::Known => by_known(alloc, store, facts, goal),
+        Cert::Compute => by_computing(alloc, store, facts, goal),
         Cert::Axiom { number, parts } => {
             let parts = parts.as_slice();
-            by_instance(alloc, store, scope, facts.as_slice(), goal, *number, parts)
+            by_instance(alloc, store, scope, facts, goal, *number, parts)
         }
         Cert::SubstIn { from, to, within } => {
-            by_equals_in(
-                alloc,
-                store,
-                scope,
-                facts.as_slice(),
-                goal,
-                from,
-                to,
-                within,
-            )
+            by_equals_in(alloc, store, scope, facts, goal, from, to, within)
         }
-        Cert::Subst { from, to } => {
-            by_equals(alloc, store, scope, facts.as_slice(), goal, from, to)
-        }
-        Cert::Contra(opposite) => {
-            by_opposites(alloc, store, scope, facts.as_slice(), goal, opposite)
-        }
+        Cert::Subst { from, to } => { by_equals(alloc, store, scope, facts, goal, from, to) }
+        Cert::Contra(opposite) => { by_opposites(alloc, store, scope, facts, goal, opposite) }
         Cert::Linear { sums, rows } => {
             let (sums, rows) = (sums.as_slice(), rows.as_slice());
-            by_rows(alloc, store, scope, facts.as_slice(), goal, sums, rows)
+            by_rows(alloc, store, scope, facts, goal, sums, rows)
         }
         Cert::Cases {
             formula: split,
@@ -77,11 +65,11 @@ pub(crate) fn prove(
         } => {
             let known = facts.len();
             let split = formula(alloc, store, scope, split)?;
-            facts.push(split)?;
+            facts.push(store, split)?;
             prove(alloc, store, scope, facts, goal, holds)?;
             let denied = negation(alloc, store, split)?;
             cut_to(store, facts, known);
-            facts.push(denied)?;
+            facts.push(store, denied)?;
             prove(alloc, store, scope, facts, goal, fails)
         }
         Cert::Steps { steps, last } => {
@@ -92,7 +80,7 @@ pub(crate) fn prove(
                 let shown = formula(alloc, store, scope, &step.formula)?;
                 prove(alloc, store, scope, facts, shown, &step.cert)?;
                 facts.truncate(known);
-                facts.push(shown)?;
+                facts.push(store, shown)?;
             }
             prove(alloc, store, scope, facts, goal, last)
         }

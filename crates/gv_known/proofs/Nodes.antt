@@ -1,5 +1,5 @@
 -- What is made of a tree, from its root and its branches.
-use Rattle.std.proofs.Common.{◌≡◌, ℕ, ◌+◌, ◌<◌, ◌≤◌, List, [], ◌∷◌, ◌++◌, map, length, take, drop, get_or, Bool, true, false, ◌&&◌, cond, Option, Some, None, refl, sym, ap, ◌∙◌, subst}
+use Rattle.std.proofs.Common.{◌≡◌, ℕ, ◌+◌, ◌<◌, ◌≤◌, List, [], ◌∷◌, ◌++◌, map, length, take, drop, get_or, Bool, true, false, ◌&&◌, cond, Some, None, refl, sym, ap, ◌∙◌}
 use Rattle.std.proofs.lemmas.List.{drop_more, drop_all, take_more, take_all, map-append}
 use Rattle.std.proofs.lemmas.List.Elements.{All-cons, All-nil}
 use Rattle.std.specs.List.{list_all}
@@ -17,7 +17,7 @@ use Rattle.gv_terms.specs.Trees.{rooted, root_of, branches_of, sort_of, sort_of_
 use Rattle.gv_terms.proofs.NodeSorts.{sort_variable, sort_apply}
 use Rattle.gv_certs.specs.Trees.{folded, tree_eq, replaced}
 use Rattle.gv_certs.specs.Known.{is_plain_head, is_plain}
-use Rattle.gv_certs.proofs.Folding.{Each, trees, by_induction, root_variable, root_apply, branches_variable, branches_apply, rooted_again, folded_variable, folded_apply}
+use Rattle.gv_certs.proofs.Folding.{Each, trees, by_induction, root_variable, root_apply, branches_variable, branches_apply, folded_variable, folded_apply}
 use Rattle.gv_certs.proofs.Equality.{same_tree}
 
 -- what is made of a node

@@ -1,5 +1,5 @@
 -- Tests of terms of a store decide what the definitions ask of their trees.
-use Rattle.std.proofs.Common.{◌≡◌, ℕ, ◌+◌, ◌<◌, ◌≤◌, List, [], ◌∷◌, length, drop, get_or, Bool, true, false, ◌&&◌, ◌||◌, Option, Some, None, ◌↔◌, IsTrue, refl, sym, ap, ◌∙◌, subst, arith}
+use Rattle.std.proofs.Common.{◌≡◌, ℕ, zero, suc, ◌+◌, ◌<◌, ◌≤◌, List, [], ◌∷◌, length, drop, get_or, Bool, true, false, ◌&&◌, ◌||◌, Option, Some, None, ◌↔◌, IsTrue, refl, sym, ap, ◌∙◌, subst}
 use Rattle.std.specs.Bool.{Decides}
 use Rattle.std.proofs.lemmas.Bool.{and_parts}
 use Rattle.std.proofs.lemmas.Bool.Decides.{same_from_decides}
@@ -78,3 +78,17 @@ not_here st facts i p t lt is e =
 
 pub none_left : (st : List TermTree) (facts : List Term) (i : ℕ) (t : TermTree) → length facts ≤ i → contains (trees_at st (drop i facts)) t ≡ false
 none_left st facts i t le = ap (λ qs. contains (trees_at st qs) t) (drop_all i facts le)
+
+-- ---- facts at any place
+
+or_later : (a b : Bool) → b ≡ true → (a || b) ≡ true
+or_later true b e = refl
+or_later false b e = e
+
+from_later : (st : List TermTree) (facts : List Term) (i : ℕ) (t : TermTree) → contains (trees_at st (drop i facts)) t ≡ true → contains (trees_at st facts) t ≡ true
+from_later st facts zero t h = h
+from_later st [] (suc i) t h = h
+from_later st (f ∷ facts) (suc i) t h = or_later (tree_eq (tree_at st f.id) t) (contains (trees_at st facts) t) (from_later st facts i t h)
+
+pub found_at : (st : List TermTree) (facts : List Term) (i : ℕ) (p : Term) (t : TermTree) → i < length facts → p ≡ get_or facts i p → tree_eq (tree_at st p.id) t ≡ true → contains (trees_at st facts) t ≡ true
+found_at st facts i p t lt is e = from_later st facts i t (found_here st facts i p t lt is e)

@@ -24,8 +24,8 @@ pub fn contains(store: &TermStore, facts: &[Term], term: Term) -> bool
     false
 }
 
-// Whether a term is the equation of two.
-fn is_equation(store: &TermStore, term: Term, a: Term, b: Term) -> bool
+/// Whether a term is the equation of two.
+pub(crate) fn is_equation(store: &TermStore, term: Term, a: Term, b: Term) -> bool
     requires whole { term.id < length store.now }
     requires first { a.id < length store.now }
     requires second { b.id < length store.now }

@@ -4,6 +4,7 @@ ghost use Rattle.std.specs.Prelude.{◌≡◌, ◌<◌, length, IfSome, option_m
 ghost use Rattle.gv_terms.specs.Store.{tree_at, trees_at, AreIn};
 ghost use Rattle.gv_terms.specs.Trees.{root_of, branches_of};
 ghost use Rattle.gv_certs.specs.Trees as spec;
+ghost use Rattle.gv_known.specs.Parts.{parts_at};
 
 use gv_terms::{Head, Operator, Term, TermStore};
 
@@ -43,7 +44,7 @@ pub fn parts_under(store: &TermStore, operator: Operator, term: Term) -> Option<
     requires { term.id < length store.now }
     ensures within { IfSome result (λ p. (p.first.id < length store.now) × (p.second.id < length store.now)) }
     ensures earlier { IfSome result (λ p. (p.first.id < term.id) × (p.second.id < term.id)) }
-    ensures parts { option_map (λ p. (tree_at store.now p.first.id, tree_at store.now p.second.id)) result ≡ spec.parts_under operator (tree_at store.now term.id) }
+    ensures parts { option_map (parts_at store.now) result ≡ spec.parts_under operator (tree_at store.now term.id) }
 {
     if is_apply(operator, store.head_of(term)) {
         two(store.parts_of(term))

@@ -3,7 +3,7 @@
 ghost use Rattle.std.specs.Prelude.{◌≡◌, ◌<◌, length, IfOk};
 ghost use Rattle.gv_terms.specs.Store.{tree_at, Grows};
 ghost use Rattle.gv_terms.specs.Trees.{sort_of};
-ghost use Rattle.gv_certs.specs.Trees as spec;
+ghost use Rattle.gv_known.specs.Parts.{replaced_at};
 
 use crate::comparing::same;
 use gv_base::{List, NoMemory};
@@ -24,7 +24,7 @@ pub fn replaced(
     requires whole { term.id < length store.old }
     requires alike { sort_of (tree_at store.old from.id) ≡ sort_of (tree_at store.old to.id) }
     ensures within { IfOk result (λ t. t.id < length store.new) }
-    ensures made { IfOk result (λ t. tree_at store.new t.id ≡ spec.replaced (tree_at store.old from.id) (tree_at store.old to.id) (tree_at store.old term.id)) }
+    ensures made { IfOk result (λ t. tree_at store.new t.id ≡ replaced_at store.old from to term) }
     ensures grows { Grows store.old store.new }
 {
     if same(store, from, term) {

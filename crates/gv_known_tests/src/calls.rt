@@ -3,7 +3,7 @@
 ghost use Rattle.std.specs.Prelude.{◌<◌, length, IfOk};
 
 use gv_base::{List, Name, NoMemory};
-use gv_known::{is_reflexive, known, same};
+use gv_known::{Facts, is_reflexive, known, same};
 use gv_terms::{Operator, RawTerm, ResolveFault, Scope, Sort, Term, TermStore, resolve};
 use std::alloc::Global;
 use std::test::Fail;
@@ -39,7 +39,7 @@ fn over(
     resolve(alloc, store, &scope(alloc)?, &raw)
 }
 
-// `x == y` is known where `y == x` is a fact, and `1 < 2` from nothing; `x == 1` isn't known.
+// `x == y` is known where `y == x` is a fact, and `1 < 2` from nothing; `x == 1` isn't known. Facts that are taken away are known no more.
 #[test]
 fn formulas_are_known(rt: HostRuntime) -> Result<(), Fail> {
     let alloc = rt.alloc();
@@ -61,10 +61,17 @@ fn formulas_are_known(rt: HostRuntime) -> Result<(), Fail> {
     let other = over(alloc, &mut store, Operator::Equal, x, number(alloc, 1))?;
     let made = store.len() as u64;
     assert!(rt; turned.id < made && equal.id < made && low.id < made && other.id < made);
-    let facts = [turned];
+    let mut facts = Facts::new(alloc);
+    facts.push(&store, turned)?;
     assert!(rt; known(alloc, &store, &facts, equal)?);
     assert!(rt; known(alloc, &store, &facts, low)?);
     assert!(rt; !known(alloc, &store, &facts, other)?);
+    facts.push(&store, equal)?;
+    facts.truncate(1);
+    assert!(rt; facts.len() == 1 && facts.as_slice()[0].id == turned.id);
+    assert!(rt; known(alloc, &store, &facts, equal)?);
+    facts.truncate(0);
+    assert!(rt; !known(alloc, &store, &facts, equal)?);
     assert!(rt; !is_reflexive(&store, equal));
     assert!(rt; !same(&store, equal, turned));
     Ok(())

@@ -7,7 +7,7 @@ ghost use Rattle.gv_certs.specs.Proving.{asks, is_known_of, AllHold};
 ghost use Rattle.gv_side.specs.Telling.{IsFault};
 
 use gv_certs::{Cause, RuleFault};
-use gv_known::known;
+use gv_known::{Facts, known};
 use gv_terms::{Term, TermStore};
 use std::alloc::Global;
 
@@ -27,7 +27,7 @@ pub fn ask(holds: bool, cause: Cause) -> Result<(), RuleFault>
 pub fn ask_known(
     alloc: Global,
     store: &TermStore,
-    facts: &[Term],
+    facts: &Facts,
     formula: Term,
 ) -> Result<(), RuleFault>
     requires facts { AreIn store.now facts.now }

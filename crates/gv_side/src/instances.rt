@@ -8,7 +8,7 @@ ghost use Rattle.gv_side.specs.Telling.{IsFault, asked_of, axiom_of};
 use crate::asking::{ask, ask_known};
 use gv_axioms::{AxiomFault, instance};
 use gv_certs::{Cause, RuleFault};
-use gv_known::same;
+use gv_known::{Facts, same};
 use gv_terms::{Term, TermStore};
 use std::alloc::Global;
 
@@ -16,7 +16,7 @@ use std::alloc::Global;
 fn ask_all(
     alloc: Global,
     store: &TermStore,
-    facts: &[Term],
+    facts: &Facts,
     formulas: &[Term],
 ) -> Result<(), RuleFault>
     requires facts { AreIn store.now facts.now }
@@ -34,7 +34,7 @@ fn ask_all(
 pub fn by_axiom(
     alloc: Global,
     store: &mut TermStore,
-    facts: &[Term],
+    facts: &Facts,
     goal: Term,
     number: u32,
     parts: &[Term],

@@ -11,6 +11,7 @@ ghost use Rattle.gv_side.specs.Telling.{IsFault, opposites_of};
 use crate::asking::ask_known;
 use crate::making::negation;
 use gv_certs::RuleFault;
+use gv_known::Facts;
 use gv_terms::{Term, TermStore};
 use std::alloc::Global;
 
@@ -18,7 +19,7 @@ use std::alloc::Global;
 pub fn contra(
     alloc: Global,
     store: &mut TermStore,
-    facts: &[Term],
+    facts: &Facts,
     formula: Term,
 ) -> Result<(), RuleFault>
     requires facts { AreIn store.old facts.now }

@@ -9,7 +9,7 @@ ghost use Rattle.gv_side.specs.Telling.{IsFault, asked_of, equals_in, equals_of}
 use crate::asking::{ask, ask_known};
 use crate::making::equation;
 use gv_certs::{Cause, RuleFault};
-use gv_known::{is_reflexive, replaced, same};
+use gv_known::{Facts, is_reflexive, replaced, same};
 use gv_terms::{Term, TermStore};
 use std::alloc::Global;
 
@@ -17,7 +17,7 @@ use std::alloc::Global;
 pub fn subst_in(
     alloc: Global,
     store: &mut TermStore,
-    facts: &[Term],
+    facts: &Facts,
     goal: Term,
     from: Term,
     to: Term,
@@ -45,7 +45,7 @@ pub fn subst_in(
 pub fn subst(
     alloc: Global,
     store: &mut TermStore,
-    facts: &[Term],
+    facts: &Facts,
     goal: Term,
     from: Term,
     to: Term,

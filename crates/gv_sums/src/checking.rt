@@ -17,6 +17,7 @@ use crate::unknowns::unknowns_of;
 use crate::whole_sums::ask_sums;
 use gv_base::NoMemory;
 use gv_certs::{Cause, RuleFault};
+use gv_known::Facts;
 use gv_linear::{Linear, check_linear};
 use gv_side::ask_known;
 use gv_terms::{Term, TermStore};
@@ -26,7 +27,7 @@ use std::alloc::Global;
 fn ask_row(
     alloc: Global,
     store: &TermStore,
-    facts: &[Term],
+    facts: &Facts,
     formula: Term,
 ) -> Result<Compared, RuleFault>
     requires facts { AreIn store.now facts.now }
@@ -47,7 +48,7 @@ fn ask_row(
 fn ask_rows(
     alloc: Global,
     store: &TermStore,
-    facts: &[Term],
+    facts: &Facts,
     rows: &[FactoredTerm],
 ) -> Result<Vec<Compared>, RuleFault>
     requires facts { AreIn store.now facts.now }
@@ -117,7 +118,7 @@ fn told(answer: Linear) -> Result<(), RuleFault>
 fn sum_up(
     alloc: Global,
     store: &TermStore,
-    facts: &[Term],
+    facts: &Facts,
     goal: Term,
     sums: &[Term],
     rows: &[FactoredTerm],
@@ -146,7 +147,7 @@ fn sum_up(
 pub fn linear(
     alloc: Global,
     store: &mut TermStore,
-    facts: &[Term],
+    facts: &Facts,
     goal: Term,
     sums: &[Term],
     rows: &[FactoredTerm],

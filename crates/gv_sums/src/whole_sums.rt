@@ -12,7 +12,7 @@ ghost use Rattle.gv_sums.specs.Telling as telling;
 
 use gv_base::NoMemory;
 use gv_certs::{Cause, RuleFault};
-use gv_known::{known, parts_under};
+use gv_known::{Facts, known, parts_under};
 use gv_side::{ask, over_two};
 use gv_terms::{Operator, Term, TermStore};
 use std::alloc::Global;
@@ -21,7 +21,7 @@ use std::alloc::Global;
 fn is_known_over(
     alloc: Global,
     store: &mut TermStore,
-    facts: &[Term],
+    facts: &Facts,
     operator: Operator,
     a: Term,
     b: Term,
@@ -41,7 +41,7 @@ fn is_known_over(
 fn is_plus(
     alloc: Global,
     store: &mut TermStore,
-    facts: &[Term],
+    facts: &Facts,
     term: Term,
 ) -> Result<bool, NoMemory>
     requires facts { AreIn store.old facts.now }
@@ -67,7 +67,7 @@ fn is_plus(
 fn is_minus(
     alloc: Global,
     store: &mut TermStore,
-    facts: &[Term],
+    facts: &Facts,
     term: Term,
 ) -> Result<bool, NoMemory>
     requires facts { AreIn store.old facts.now }
@@ -92,12 +92,7 @@ fn is_minus(
 }
 
 // Whether a term is a sum or a difference of whole numbers.
-fn is_sum(
-    alloc: Global,
-    store: &mut TermStore,
-    facts: &[Term],
-    term: Term,
-) -> Result<bool, NoMemory>
+fn is_sum(alloc: Global, store: &mut TermStore, facts: &Facts, term: Term) -> Result<bool, NoMemory>
     requires facts { AreIn store.old facts.now }
     requires term { term.id < length store.old }
     ensures told { IfOk result (λ k. k ≡ spec.is_sum (trees_at store.old facts.now) (tree_at store.old term.id)) }
@@ -113,7 +108,7 @@ fn is_sum(
 pub(crate) fn ask_sums(
     alloc: Global,
     store: &mut TermStore,
-    facts: &[Term],
+    facts: &Facts,
     sums: &[Term],
 ) -> Result<(), RuleFault>
     requires facts { AreIn store.old facts.now }

@@ -21,15 +21,15 @@ returns-in_err-prove-in-Cases-clause-cause t c =
     let vars = c.args.scope.now in
     let st = c.args.store.now in
     let one = c.formula.new.store in
-    let facts = c.args.facts.now.items in
+    let facts = c.args.facts.now in
     let split = c.in_ok-split-in-Cases.split in
-    let more = c.push.new.self.items in
+    let more = c.push.new.self in
     let F = trees_at st facts in
     let f = tree_at st c.args.goal.id in
     let u = tree_at one split.id in
     let x = formula_of vars c.in-Cases.split in
     let first = certificate_of vars c.deref.result.now in
-    let known = with_one st one facts more split c.requires.facts c.formula.ensures.grows c.in_ok-push-in-Cases.ensures.items in
+    let known = with_one st one facts more split c.requires.facts c.formula.ensures.grows c.in_ok-push-in-Cases.ensures.added in
     let goal_is = tree_kept st one c.args.goal c.requires.goal c.formula.ensures.grows in
     let second = certificate_of vars c.in-Cases.fails.value in
     let e = c.in_err-prove-in-Cases.field-0.0 in
@@ -43,15 +43,15 @@ returns-in_err-prove-in-Cases-clause-cause t c =
 
 pub returns-in_err-prove-in-Cases-clause-kept : goal.returns-in_err-prove-in-Cases-clause-kept
 returns-in_err-prove-in-Cases-clause-kept t c =
-    let facts = c.args.facts.now.items in
-    let more = c.push.new.self.items in
-    kept_through facts more c.prove.new.facts.items (kept_behind facts facts more c.in_ok-split-in-Cases.split (whole_kept facts) c.in_ok-push-in-Cases.ensures.items) c.prove.ensures.kept
+    let facts = c.args.facts.now in
+    let more = c.push.new.self in
+    kept_through facts more c.prove.new.facts (kept_behind facts facts more c.in_ok-split-in-Cases.split (whole_kept facts) c.in_ok-push-in-Cases.ensures.added) c.prove.ensures.kept
 
 pub returns-in_err-denied-in-Cases-clause-kept : goal.returns-in_err-denied-in-Cases-clause-kept
 returns-in_err-denied-in-Cases-clause-kept t c =
-    let facts = c.args.facts.now.items in
-    let more = c.push.new.self.items in
-    kept_through facts more c.prove.new.facts.items (kept_behind facts facts more c.in_ok-split-in-Cases.split (whole_kept facts) c.in_ok-push-in-Cases.ensures.items) c.prove.ensures.kept
+    let facts = c.args.facts.now in
+    let more = c.push.new.self in
+    kept_through facts more c.prove.new.facts (kept_behind facts facts more c.in_ok-split-in-Cases.split (whole_kept facts) c.in_ok-push-in-Cases.ensures.added) c.prove.ensures.kept
 
 pub cut_to-requires : goal.cut_to-requires
 cut_to-requires t c =
@@ -59,20 +59,20 @@ cut_to-requires t c =
     let one = c.formula.new.store in
     let two = c.prove.new.store in
     let three = c.negation.new.store in
-    let facts = c.args.facts.now.items in
-    let more = c.push.new.self.items in
+    let facts = c.args.facts.now in
+    let more = c.push.new.self in
     let n : c.len-known.result ≡ length facts = omega (arith, c.len-known.ensures) in
     let grows = grows_on st one three c.formula.ensures.grows (grows_on one two three c.prove.ensures.grows c.negation.ensures.grows) in
-    let back = restored facts more c.prove.new.facts.items (take c.len-known.result c.prove.new.facts.items) c.in_ok-split-in-Cases.split c.len-known.result c.in_ok-push-in-Cases.ensures.items c.prove.ensures.kept n refl in
+    let back = restored facts more c.prove.new.facts (take c.len-known.result c.prove.new.facts) c.in_ok-split-in-Cases.split c.len-known.result c.in_ok-push-in-Cases.ensures.added c.prove.ensures.kept n refl in
     subst (AreIn three) (sym back) (within_grown st three facts c.requires.facts grows)
 
 pub returns-in_err-push-in-Cases-2-clause-kept : goal.returns-in_err-push-in-Cases-2-clause-kept
 returns-in_err-push-in-Cases-2-clause-kept t c =
-    let facts = c.args.facts.now.items in
-    let more = c.push.new.self.items in
+    let facts = c.args.facts.now in
+    let more = c.push.new.self in
     let n : c.len-known.result ≡ length facts = omega (arith, c.len-known.ensures) in
-    let back = restored facts more c.prove.new.facts.items c.cut_to.new.facts.items c.in_ok-split-in-Cases.split c.len-known.result c.in_ok-push-in-Cases.ensures.items c.prove.ensures.kept n c.cut_to.ensures.kept in
-    ap (take (length facts)) (c.in_err-push-in-Cases-2.ensures.items ∙ back) ∙ whole_kept facts
+    let back = restored facts more c.prove.new.facts c.cut_to.new.facts c.in_ok-split-in-Cases.split c.len-known.result c.in_ok-push-in-Cases.ensures.added c.prove.ensures.kept n c.cut_to.ensures.kept in
+    ap (take (length facts)) (c.in_err-push-in-Cases-2.ensures.kept ∙ back) ∙ whole_kept facts
 
 pub prove-requires-in-Cases : goal.prove-requires-in-Cases
 prove-requires-in-Cases t c =
@@ -80,16 +80,16 @@ prove-requires-in-Cases t c =
     let one = c.formula.new.store in
     let two = c.prove.new.store in
     let three = c.negation.new.store in
-    let last = c.push-in-Cases.new.self.items in
+    let last = c.push-in-Cases.new.self in
     let grows = grows_on st one three c.formula.ensures.grows (grows_on one two three c.prove.ensures.grows c.negation.ensures.grows) in
-    let within : AreIn three last = subst (AreIn three) (sym c.in_ok-push-in-Cases-2.ensures.items) (one_more_here three c.cut_to.new.facts.items c.in_ok-denied-in-Cases.denied c.cut_to.ensures.within c.in_ok-denied-in-Cases.ensures.within) in
+    let within : AreIn three last = subst (AreIn three) (sym c.in_ok-push-in-Cases-2.ensures.added) (one_more_here three c.cut_to.new.facts c.in_ok-denied-in-Cases.denied c.cut_to.ensures.within c.in_ok-denied-in-Cases.ensures.within) in
     (first_of (search (rules, the_lemmas), grind (arith, the_lemmas)), (within, grows_within st three c.args.goal c.requires.goal grows))
 
 pub prove-requires-in-loop-i : goal.prove-requires-in-loop-i
 prove-requires-in-loop-i t c =
     let here_st = c.loop-i.store in
     let one = c.formula-in-loop-i.new.store in
-    (first_of (search (rules, the_lemmas), grind (arith, the_lemmas)), (within_grown here_st one c.loop-i.facts.items c.loop-i.invariant.within c.formula-in-loop-i.ensures.grows, c.in_ok-shown-in-Steps.ensures.within))
+    (first_of (search (rules, the_lemmas), grind (arith, the_lemmas)), (within_grown here_st one c.loop-i.facts c.loop-i.invariant.within c.formula-in-loop-i.ensures.grows, c.in_ok-shown-in-Steps.ensures.within))
 
 pub returns-in_err-shown-in-Steps-clause-cause : goal.returns-in_err-shown-in-Steps-clause-cause
 returns-in_err-shown-in-Steps-clause-cause t c =
@@ -97,8 +97,8 @@ returns-in_err-shown-in-Steps-clause-cause t c =
     let st = c.args.store.now in
     let here_st = c.loop-i.store in
     let one = c.formula-in-loop-i.new.store in
-    let facts = c.loop-i.facts.items in
-    let F = trees_at st c.args.facts.now.items in
+    let facts = c.loop-i.facts in
+    let F = trees_at st c.args.facts.now in
     let L = trees_at here_st facts in
     let f = tree_at st c.args.goal.id in
     let steps = c.as_slice-steps.result.now in
@@ -122,8 +122,8 @@ returns-in_err-prove-in-Steps-clause-cause t c =
     let st = c.args.store.now in
     let here_st = c.loop-i.store in
     let one = c.formula-in-loop-i.new.store in
-    let facts = c.loop-i.facts.items in
-    let F = trees_at st c.args.facts.now.items in
+    let facts = c.loop-i.facts in
+    let F = trees_at st c.args.facts.now in
     let L = trees_at here_st facts in
     let f = tree_at st c.args.goal.id in
     let steps = c.as_slice-steps.result.now in
@@ -152,8 +152,8 @@ loop-i-preserved t c =
     let st = c.args.store.now in
     let here_st = c.loop-i.store in
     let one = c.formula-in-loop-i.new.store in
-    let facts = c.loop-i.facts.items in
-    let F = trees_at st c.args.facts.now.items in
+    let facts = c.loop-i.facts in
+    let F = trees_at st c.args.facts.now in
     let L = trees_at here_st facts in
     let f = tree_at st c.args.goal.id in
     let steps = c.as_slice-steps.result.now in
@@ -169,17 +169,17 @@ loop-i-preserved t c =
     let u = tree_at one shown.id in
     let known = trees_same here_st one facts c.loop-i.invariant.within c.formula-in-loop-i.ensures.grows in
     let grows = grows_on here_st one two c.formula-in-loop-i.ensures.grows c.prove-in-loop-i.ensures.grows in
-    let more = c.push-in-loop-i.new.self.items in
+    let more = c.push-in-loop-i.new.self in
     let n : c.len-known-in-loop-i.result ≡ length facts = omega (arith, c.len-known-in-loop-i.ensures) in
-    let back = cut_back facts c.prove-in-loop-i.new.facts.items c.truncate.new.self.items c.len-known-in-loop-i.result c.prove-in-loop-i.ensures.kept n c.truncate.ensures.items in
-    let added : more ≡ facts ++ shown ∷ [] = c.in_ok-push-in-Steps.ensures.items ∙ ap (λ ts. ts ++ shown ∷ []) back in
+    let back = cut_back facts c.prove-in-loop-i.new.facts c.truncate.new.self c.len-known-in-loop-i.result c.prove-in-loop-i.ensures.kept n c.truncate.ensures in
+    let added : more ≡ facts ++ shown ∷ [] = c.in_ok-push-in-Steps.ensures.added ∙ ap (λ ts. ts ++ shown ∷ []) back in
     let is_shown : tree_at two shown.id ≡ u = tree_kept one two shown c.in_ok-shown-in-Steps.ensures.within c.prove-in-loop-i.ensures.grows in
     let later : trees_at two more ≡ with_fact L u = with_one here_st two facts more shown c.loop-i.invariant.within grows added ∙ ap (with_fact L) is_shown in
     let proof = moved k L (trees_at one facts) u u known refl c.in_ok-prove-in-Steps.ensures.holds in
     record {
       grows = grows_on st here_st two c.loop-i.invariant.grows grows;
       within = subst (AreIn two) (sym added) (one_more_in here_st two facts shown c.loop-i.invariant.within grows (grows_within one two shown c.in_ok-shown-in-Steps.ensures.within c.prove-in-loop-i.ensures.grows));
-      kept = kept_behind c.args.facts.now.items facts more shown c.loop-i.invariant.kept added;
+      kept = kept_behind c.args.facts.now facts more shown c.loop-i.invariant.kept added;
       holds = λ p. c.loop-i.invariant.holds
           (same_proof (rest_of vars (drop i steps) last) (stepped x k r) L f here (step_proves L f x k r u c.in_ok-shown-in-Steps.ensures.tree proof (moved r (with_fact L u) (trees_at two more) f f later refl p)));
       fault = λ e p. c.loop-i.invariant.fault e
@@ -192,24 +192,24 @@ returns-in_ok-push-in-Cases-2-clause-holds t c =
     let vars = c.args.scope.now in
     let st = c.args.store.now in
     let one = c.formula.new.store in
-    let facts = c.args.facts.now.items in
+    let facts = c.args.facts.now in
     let split = c.in_ok-split-in-Cases.split in
-    let more = c.push.new.self.items in
+    let more = c.push.new.self in
     let F = trees_at st facts in
     let f = tree_at st c.args.goal.id in
     let u = tree_at one split.id in
     let x = formula_of vars c.in-Cases.split in
     let first = certificate_of vars c.deref.result.now in
-    let known = with_one st one facts more split c.requires.facts c.formula.ensures.grows c.in_ok-push-in-Cases.ensures.items in
+    let known = with_one st one facts more split c.requires.facts c.formula.ensures.grows c.in_ok-push-in-Cases.ensures.added in
     let goal_is = tree_kept st one c.args.goal c.requires.goal c.formula.ensures.grows in
     let two = c.prove.new.store in
     let three = c.negation.new.store in
-    let cut = c.cut_to.new.facts.items in
-    let last = c.push-in-Cases.new.self.items in
+    let cut = c.cut_to.new.facts in
+    let last = c.push-in-Cases.new.self in
     let denied = c.in_ok-denied-in-Cases.denied in
     let n : c.len-known.result ≡ length facts = omega (arith, c.len-known.ensures) in
-    let back = restored facts more c.prove.new.facts.items cut split c.len-known.result c.in_ok-push-in-Cases.ensures.items c.prove.ensures.kept n c.cut_to.ensures.kept in
-    let added : last ≡ facts ++ denied ∷ [] = c.in_ok-push-in-Cases-2.ensures.items ∙ ap (λ ts. ts ++ denied ∷ []) back in
+    let back = restored facts more c.prove.new.facts cut split c.len-known.result c.in_ok-push-in-Cases.ensures.added c.prove.ensures.kept n c.cut_to.ensures.kept in
+    let added : last ≡ facts ++ denied ∷ [] = c.in_ok-push-in-Cases-2.ensures.added ∙ ap (λ ts. ts ++ denied ∷ []) back in
     let grows = grows_on st one three c.formula.ensures.grows (grows_on one two three c.prove.ensures.grows c.negation.ensures.grows) in
     let second = certificate_of vars c.deref-in-Cases.result.now in
     let is_denied : tree_at three denied.id ≡ negation u = c.in_ok-denied-in-Cases.ensures.made ∙ ap negation (tree_kept one two split c.in_ok-split-in-Cases.ensures.within c.prove.ensures.grows) in
@@ -229,24 +229,24 @@ returns-in_ok-push-in-Cases-2-clause-cause t c =
     let vars = c.args.scope.now in
     let st = c.args.store.now in
     let one = c.formula.new.store in
-    let facts = c.args.facts.now.items in
+    let facts = c.args.facts.now in
     let split = c.in_ok-split-in-Cases.split in
-    let more = c.push.new.self.items in
+    let more = c.push.new.self in
     let F = trees_at st facts in
     let f = tree_at st c.args.goal.id in
     let u = tree_at one split.id in
     let x = formula_of vars c.in-Cases.split in
     let first = certificate_of vars c.deref.result.now in
-    let known = with_one st one facts more split c.requires.facts c.formula.ensures.grows c.in_ok-push-in-Cases.ensures.items in
+    let known = with_one st one facts more split c.requires.facts c.formula.ensures.grows c.in_ok-push-in-Cases.ensures.added in
     let goal_is = tree_kept st one c.args.goal c.requires.goal c.formula.ensures.grows in
     let two = c.prove.new.store in
     let three = c.negation.new.store in
-    let cut = c.cut_to.new.facts.items in
-    let last = c.push-in-Cases.new.self.items in
+    let cut = c.cut_to.new.facts in
+    let last = c.push-in-Cases.new.self in
     let denied = c.in_ok-denied-in-Cases.denied in
     let n : c.len-known.result ≡ length facts = omega (arith, c.len-known.ensures) in
-    let back = restored facts more c.prove.new.facts.items cut split c.len-known.result c.in_ok-push-in-Cases.ensures.items c.prove.ensures.kept n c.cut_to.ensures.kept in
-    let added : last ≡ facts ++ denied ∷ [] = c.in_ok-push-in-Cases-2.ensures.items ∙ ap (λ ts. ts ++ denied ∷ []) back in
+    let back = restored facts more c.prove.new.facts cut split c.len-known.result c.in_ok-push-in-Cases.ensures.added c.prove.ensures.kept n c.cut_to.ensures.kept in
+    let added : last ≡ facts ++ denied ∷ [] = c.in_ok-push-in-Cases-2.ensures.added ∙ ap (λ ts. ts ++ denied ∷ []) back in
     let grows = grows_on st one three c.formula.ensures.grows (grows_on one two three c.prove.ensures.grows c.negation.ensures.grows) in
     let second = certificate_of vars c.deref-in-Cases.result.now in
     let is_denied : tree_at three denied.id ≡ negation u = c.in_ok-denied-in-Cases.ensures.made ∙ ap negation (tree_kept one two split c.in_ok-split-in-Cases.ensures.within c.prove.ensures.grows) in
@@ -263,24 +263,24 @@ returns-in_ok-push-in-Cases-2-clause-cause t c =
 
 pub returns-in_ok-push-in-Cases-2-clause-kept : goal.returns-in_ok-push-in-Cases-2-clause-kept
 returns-in_ok-push-in-Cases-2-clause-kept t c =
-    let facts = c.args.facts.now.items in
+    let facts = c.args.facts.now in
     let split = c.in_ok-split-in-Cases.split in
-    let more = c.push.new.self.items in
-    let cut = c.cut_to.new.facts.items in
-    let last = c.push-in-Cases.new.self.items in
+    let more = c.push.new.self in
+    let cut = c.cut_to.new.facts in
+    let last = c.push-in-Cases.new.self in
     let denied = c.in_ok-denied-in-Cases.denied in
     let n : c.len-known.result ≡ length facts = omega (arith, c.len-known.ensures) in
-    let back = restored facts more c.prove.new.facts.items cut split c.len-known.result c.in_ok-push-in-Cases.ensures.items c.prove.ensures.kept n c.cut_to.ensures.kept in
-    let added : last ≡ facts ++ denied ∷ [] = c.in_ok-push-in-Cases-2.ensures.items ∙ ap (λ ts. ts ++ denied ∷ []) back in
-    kept_through facts last c.prove-in-Cases.new.facts.items (kept_behind facts facts last denied (whole_kept facts) added) c.prove-in-Cases.ensures.kept
+    let back = restored facts more c.prove.new.facts cut split c.len-known.result c.in_ok-push-in-Cases.ensures.added c.prove.ensures.kept n c.cut_to.ensures.kept in
+    let added : last ≡ facts ++ denied ∷ [] = c.in_ok-push-in-Cases-2.ensures.added ∙ ap (λ ts. ts ++ denied ∷ []) back in
+    kept_through facts last c.prove-in-Cases.new.facts (kept_behind facts facts last denied (whole_kept facts) added) c.prove-in-Cases.ensures.kept
 
 pub returns-after-loop-i-clause-holds : goal.returns-after-loop-i-clause-holds
 returns-after-loop-i-clause-holds t c =
     let vars = c.args.scope.now in
     let st = c.args.store.now in
     let here_st = c.loop-i.store in
-    let facts = c.loop-i.facts.items in
-    let F = trees_at st c.args.facts.now.items in
+    let facts = c.loop-i.facts in
+    let F = trees_at st c.args.facts.now in
     let L = trees_at here_st facts in
     let f = tree_at st c.args.goal.id in
     let g = tree_at here_st c.args.goal.id in
@@ -302,8 +302,8 @@ returns-after-loop-i-clause-cause t c =
     let vars = c.args.scope.now in
     let st = c.args.store.now in
     let here_st = c.loop-i.store in
-    let facts = c.loop-i.facts.items in
-    let F = trees_at st c.args.facts.now.items in
+    let facts = c.loop-i.facts in
+    let F = trees_at st c.args.facts.now in
     let L = trees_at here_st facts in
     let f = tree_at st c.args.goal.id in
     let g = tree_at here_st c.args.goal.id in

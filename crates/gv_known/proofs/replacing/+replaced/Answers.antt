@@ -1,4 +1,4 @@
-use Rattle.std.proofs.Common.{◌≡◌, sym, ap, ◌∙◌, subst, arith}
+use Rattle.std.proofs.Common.{sym, ap, ◌∙◌, subst, arith}
 use Rattle.gv_terms.specs.Store.{tree_at, trees_at, AreIn}
 use Rattle.gv_terms.proofs.Grown.{one_more_in}
 use Rattle.gv_terms.proofs.RawParts.{grows_on}
