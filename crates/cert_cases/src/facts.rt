@@ -6,8 +6,9 @@ ghost use Rattle.std.specs.Prelude.{IfOk};
 use crate::repeated::MOST;
 use anyhow::{Result, bail};
 use gv_have::formula;
+use gv_known::Facts;
 use gv_lex::{lex, term};
-use gv_terms::{RawTerm, Scope, Term, TermStore};
+use gv_terms::{RawTerm, Scope, TermStore};
 use std::alloc::Global;
 
 /// The term that bytes are, as it was read.
@@ -29,10 +30,10 @@ pub(crate) fn facts_of(
     store: &mut TermStore,
     scope: &Scope,
     text: &str,
-) -> Result<Vec<Term>>
-    ensures within { IfOk result (λ ts. AreIn store.new ts.items) }
+) -> Result<Facts>
+    ensures within { IfOk result (λ ts. AreIn store.new ts) }
 {
-    let mut facts = Vec::new(alloc);
+    let mut facts = Facts::new(alloc);
     if text.is_empty() {
         return Ok(facts);
     }
@@ -41,7 +42,7 @@ pub(crate) fn facts_of(
         let Ok(fact) = formula(alloc, store, scope, &raw) else {
             bail!("no formula: {part}");
         };
-        facts.push(fact)?;
+        facts.push(store, fact)?;
     }
     Ok(facts)
 }

@@ -6,18 +6,19 @@ use crate::commands::Command;
 use anyhow::{Result, bail};
 use gv_certs::RuleFault;
 use gv_have::{absurd, have};
-use gv_terms::{Scope, Term, TermStore};
+use gv_known::Facts;
+use gv_terms::{Scope, TermStore};
 use std::alloc::Global;
 
 fn checked(
     alloc: Global,
     store: &mut TermStore,
     scope: &Scope,
-    facts: &mut Vec<Term>,
+    facts: &mut Facts,
     command: &Command,
 ) -> Result<(), RuleFault>
-    requires facts { AreIn store.old facts.old.items }
-    ensures within { AreIn store.new facts.new.items }
+    requires facts { AreIn store.old facts.old }
+    ensures within { AreIn store.new facts.new }
 {
     match command {
         Command::Have(goal, cert) => have(alloc, store, scope, facts, goal, cert),
@@ -39,10 +40,10 @@ pub(crate) fn outcomes(
     alloc: Global,
     store: &mut TermStore,
     scope: &Scope,
-    facts: &mut Vec<Term>,
+    facts: &mut Facts,
     commands: &[Command],
 ) -> Result<String>
-    requires facts { AreIn store.old facts.old.items }
+    requires facts { AreIn store.old facts.old }
 {
     let mut said = String::new(alloc);
     for i in 0..commands.len() {

@@ -3,5 +3,5 @@ use Rattle.cert_cases.proofs.outcomes.outcomes.Given as goal
 
 abbrev pub invariant-loop-i : goal.invariant-loop-i
 invariant-loop-i l = record {
-  within : AreIn l.store l.facts.items;
+  within : AreIn l.store l.facts;
 }
