@@ -56,7 +56,7 @@ use Rattle.gv_seats.proofs.Objects.{has_cell, cells_are}
 use Rattle.gv_rules.proofs.Loads.{unmarked_is}
 use Rattle.gv_rules.proofs.Stores.{swapped}
 use Rattle.gv_slicing.specs.Rows.{one_of, equal}
-use Rattle.gv_slicing.proofs.Lists.{mapped_at}
+use Rattle.gv_slicing.proofs.Lists.{mapped_at, drop_there}
 use Rattle.gv_slicing.proofs.Operands.{word_operand, slice_is, slice_value}
 use Rattle.gv_slicing.proofs.Owned.{owns_item, item_told, byte_is, not_mine}
 use Rattle.gv_slicing.proofs.Truths.{number_value, one_value}
@@ -81,11 +81,6 @@ equal_numbers env a m n is truth =
     eqb-true m n test
 
 -- ---- a run of cells with these bytes
-
-drop_there : {A : Type 0} (xs : List A) (n : ℕ) (x : A) → slice_get xs n ≡ Some x → drop n xs ≡ x ∷ drop (suc n) xs
-drop_there [] n x e = absurd cc
-drop_there (y ∷ xs) zero x e = let same : y ≡ x = cc in ap (λ z. z ∷ xs) same
-drop_there (y ∷ xs) (suc n) x e = drop_there xs n x e
 
 abbrev byte_cell : ℕ → Cell
 byte_cell b = record { value = stored.Byte b; marked = false }

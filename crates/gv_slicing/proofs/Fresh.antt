@@ -1,5 +1,5 @@
 -- An object of new cells, which a slice is made of.
-use Rattle.std.proofs.Common.{◌≡◌, ◌≢◌, ℕ, zero, suc, ◌+◌, ◌≤◌, inl, inr, Bool, true, false, ◌&&◌, nat_eq, List, [], ◌∷◌, ◌++◌, map, length, Option, Some, None, refl, sym, ap, subst, ◌∙◌, arith}
+use Rattle.std.proofs.Common.{◌≡◌, ◌≢◌, ℕ, zero, suc, ◌+◌, ◌<◌, ◌≤◌, inl, inr, Bool, true, false, ◌&&◌, nat_eq, List, [], ◌∷◌, ◌++◌, map, length, Option, Some, None, refl, sym, ap, subst, ◌∙◌, arith}
 use Rattle.std.specs.Prelude.{slice_get}
 use Rattle.gv_terms.specs.declared.value.Value.{Value}
 use Rattle.gv_terms.specs.declared.value.Value.TheVariants as val
@@ -10,7 +10,7 @@ use Rattle.gv_world.specs.Store.{Object, Store as World, fresh, with_new}
 use Rattle.gv_world.specs.Slices.{whole_of}
 use Rattle.gv_resources.specs.Kinds as kind
 use Rattle.gv_resources.specs.Kinds.{Kind, kind_eq}
-use Rattle.gv_resources.specs.Pieces.{Resource, Piece, sum_below}
+use Rattle.gv_resources.specs.Pieces.{Resource, Have, Piece, sum_below}
 use Rattle.gv_resources.specs.Ghost.{Ghost, Mode}
 use Rattle.gv_resources.specs.Told.{Shape, told, under, only_if, value_of, object_at, cells_in, in_cell, cell_at, map_in, locked_in, free_mutex, held_mutex, guarded_by, cell_of, object_of}
 use Rattle.gv_resources.proofs.Equality.{kind_tells}
@@ -199,12 +199,17 @@ module _ (z : Shape) (w : World) (g : Ghost) (cells : List Cell) (untouched : Is
   own_items : (i : ℕ) → is_of object (Some (object, i)) ≡ true
   own_items i = elim (number_test object object) [ inl (e, t) ↦ t | inr (ne, t) ↦ absurd (ne refl) ]
 
+  -- each cell of the object is its
+  pub owns_new : (i : ℕ) (c : Cell) → slice_get cells i ≡ Some c → 0 < new_items (Have kind.Item (val.Ref object ∷ val.Word i ∷ []) (value_of c.value ∷ []))
+  owns_new i c there =
+      all_told_has (items_at object) (told z grown after) kind.Item (val.Ref object ∷ val.Word i ∷ []) (value_of c.value ∷ []) (own_items i) (item_told i c there)
+
   owns_items : (place : ℕ) (others : List Cell) → ((i : ℕ) (c : Cell) → slice_get others i ≡ Some c → slice_get cells (place + i) ≡ Some c)
       → OwnsItems kind.Item (whole_of object (length cells)) place (map (λ c. value_of c.value) others) new_items
   owns_items place [] there = tt
   owns_items place (c ∷ others) there =
       let here : slice_get cells (0 + place) ≡ Some c = subst (λ (n : ℕ). slice_get cells n ≡ Some c) (omega arith) (there 0 c refl) in (
-        all_told_has (items_at object) (told z grown after) kind.Item (cell_key (whole_of object (length cells)) place) (value_of c.value ∷ []) (own_items (0 + place)) (item_told (0 + place) c here),
+        owns_new (0 + place) c here,
         owns_items (place + 1) others (λ i d e. subst (λ (n : ℕ). slice_get cells n ≡ Some d) (omega arith) (there (suc i) d e)),
       )
 

@@ -114,7 +114,7 @@ reads w object place c there free =
     ∙ ap (λ (cells : List Cell). and_then (unmarked cells 1) first_value) (one_run at.cells place c (subst (λ (cells : List Cell). slice_get cells place ≡ Some c) before there))
     ∙ ap (λ (marked : Bool). and_then (unmarked (record { value = c.value; marked = marked } ∷ []) 1) first_value) free
 
-within_test : (s : SliceVal) (n : ℕ) → n < s.length → is_within s n ≡ true
+pub within_test : (s : SliceVal) (n : ℕ) → n < s.length → is_within s n ≡ true
 within_test s n l = elim (below_test n s.length) [ inl (k, t) ↦ t | inr (k, t) ↦ absurd (omega arith) ]
 
 module _ (program : Program) (extra : ℕ) (w : World) (f : Frame) (below : List Frame) where
@@ -138,11 +138,11 @@ module _ (program : Program) (extra : ℕ) (w : World) (f : Frame) (below : List
 
 -- ---- the law
 
-owned_slice : {preds : List Predicate} {env : Env} {frozen : Bool} {s t : TermTree} {p : Piece} (sl : SliceVal) → value_under env s ≡ val.SliceS sl → StandsFor preds env (Slice frozen s t) p
+pub owned_slice : {preds : List Predicate} {env : Env} {frozen : Bool} {s t : TermTree} {p : Piece} (sl : SliceVal) → value_under env s ≡ val.SliceS sl → StandsFor preds env (Slice frozen s t) p
     → OwnsSlice frozen sl (value_under env t) p
 owned_slice {env = env} {frozen = frozen} {t = t} {p = p} sl is (slice h) = subst (λ (x : Value). OwnsSlice frozen (slice_of x) (value_under env t) p) is h
 
-known_below : (env : Env) (n t : TermTree) (m : ℕ) → value_under env n ≡ val.Word m → IsTrueUnder env (less n (one_of op.Len t))
+pub known_below : (env : Env) (n t : TermTree) (m : ℕ) → value_under env n ≡ val.Word m → IsTrueUnder env (less n (one_of op.Len t))
     → operate op.Less (val.Word m ∷ operate op.Len (value_under env t ∷ []) ∷ []) ≡ val.Bool true
 known_below env n t m is truth =
     sym (value_apply env op.Less (n ∷ one_of op.Len t ∷ []) ∙ ap (λ (v : Value). operate op.Less (v ∷ value_under env (one_of op.Len t) ∷ [])) is

@@ -1,5 +1,5 @@
 -- Lists, an item at a time.
-use Rattle.std.proofs.Common.{◌≡◌, ℕ, zero, suc, ◌<◌, true, false, nat_lt, List, [], ◌∷◌, map, length, Some, refl, sym, ap, subst, ◌∙◌, inl, inr, arith}
+use Rattle.std.proofs.Common.{◌≡◌, ℕ, zero, suc, ◌<◌, true, false, nat_lt, List, [], ◌∷◌, map, length, drop, Some, refl, sym, ap, subst, ◌∙◌, inl, inr, arith}
 use Rattle.std.specs.Prelude.{slice_get}
 use Rattle.std.specs.List.{All}
 use Rattle.gv_terms.specs.declared.value.Value.{Value}
@@ -28,3 +28,9 @@ pub mapped_at : (f : ℕ → Value) (xs : List ℕ) (i x : ℕ) → slice_get xs
 mapped_at f [] i x e = absurd cc
 mapped_at f (y ∷ xs) zero x e = let same : y ≡ x = cc in ap (λ (z : ℕ). Some (f z)) same
 mapped_at f (y ∷ xs) (suc i) x e = mapped_at f xs i x e
+
+-- what begins with the item under a number
+pub drop_there : {A : Type 0} (xs : List A) (n : ℕ) (x : A) → slice_get xs n ≡ Some x → drop n xs ≡ x ∷ drop (suc n) xs
+drop_there [] n x e = absurd cc
+drop_there (y ∷ xs) zero x e = let same : y ≡ x = cc in ap (λ z. z ∷ xs) same
+drop_there (y ∷ xs) (suc n) x e = drop_there xs n x e
