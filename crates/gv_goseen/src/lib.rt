@@ -8,6 +8,7 @@ mod lookups;
 mod members;
 mod naming;
 mod numbers;
+mod paths;
 mod scopes;
 mod seen;
 
@@ -15,4 +16,5 @@ pub use declared::{Declared, Procedure};
 pub use lookups::is_blank;
 pub use naming::{declare_field, declare_name};
 pub use numbers::number_of;
+pub use paths::{element_of, element_start, imported, unquoted};
 pub use seen::Seen;

@@ -1,0 +1,51 @@
+//! Paths of imports.
+
+ghost use Rattle.std.specs.Prelude.{◌≡◌, ◌≤◌, length, drop};
+ghost use Rattle.gv_gotypes.specs.Declarations as declarations;
+ghost use Rattle.gv_gotypes.specs.Literals as literals;
+
+use gv_gopackages::library_named;
+use gv_gotypes::Library;
+
+/// What stands between the quotes of a path.
+pub fn unquoted(quoted: &[u8]) -> &[u8]
+    ensures { result.now ≡ literals.unquoted quoted.now }
+{
+    if quoted.len() < 2 {
+        &[]
+    } else {
+        &quoted[1..quoted.len() - 1]
+    }
+}
+
+/// Where the last element of a path begins: behind the last `/`.
+pub fn element_start(path: &[u8]) -> usize
+    ensures within { result ≤ length path.now }
+    ensures element { drop result path.now ≡ literals.last_element path.now path.now }
+{
+    let mut start = 0;
+    let mut at = 0;
+    while at < path.len() {
+        if path[at] == b'/' {
+            start = at + 1;
+        }
+        at += 1;
+    }
+    start
+}
+
+/// The last element of a path in quotes.
+pub fn element_of(quoted: &[u8]) -> &[u8]
+    ensures { result.now ≡ literals.element_of quoted.now }
+{
+    let path = unquoted(quoted);
+    let start = element_start(path);
+    &path[start..]
+}
+
+/// The package that a path in quotes imports, if it may be imported.
+pub fn imported(quoted: &[u8]) -> Option<Library>
+    ensures { result ≡ declarations.library_named (literals.element_of quoted.now) }
+{
+    library_named(element_of(quoted))
+}
