@@ -16,5 +16,5 @@ pub use declared::{Declared, Procedure};
 pub use lookups::is_blank;
 pub use naming::{declare_field, declare_name};
 pub use numbers::number_of;
-pub use paths::{element_of, element_start, imported, unquoted};
+pub use paths::{element_of, element_span, element_start, imported, unquoted};
 pub use seen::Seen;

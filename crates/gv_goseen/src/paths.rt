@@ -1,10 +1,12 @@
 //! Paths of imports.
 
-ghost use Rattle.std.specs.Prelude.{◌≡◌, ◌≤◌, length, drop};
+ghost use Rattle.std.specs.Prelude.{◌≡◌, ◌≤◌, length, drop, slice_range};
 ghost use Rattle.gv_gotypes.specs.Declarations as declarations;
 ghost use Rattle.gv_gotypes.specs.Literals as literals;
 
+use gv_gonames::{Span, bytes_between, span_of};
 use gv_gopackages::library_named;
+use gv_gosyntax::Lexeme;
 use gv_gotypes::Library;
 
 /// What stands between the quotes of a path.
@@ -48,4 +50,24 @@ pub fn imported(quoted: &[u8]) -> Option<Library>
     ensures { result ≡ declarations.library_named (literals.element_of quoted.now) }
 {
     library_named(element_of(quoted))
+}
+
+/// Where the last element of the path in quotes of an import stands.
+pub fn element_span(text: &[u8], token: Lexeme) -> Span
+    requires ordered { token.start ≤ token.end }
+    requires within { token.end ≤ length text.now }
+    ensures { slice_range text.now result.start result.end ≡ literals.element_of (slice_range text.now token.start token.end) }
+{
+    let quoted = bytes_between(text, span_of(token));
+    if quoted.len() < 2 {
+        return Span {
+            start: token.start,
+            end: token.start,
+        };
+    }
+    let start = element_start(unquoted(quoted)) as u32;
+    Span {
+        start: token.start + 1 + start,
+        end: token.end - 1,
+    }
 }
