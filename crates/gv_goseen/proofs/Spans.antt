@@ -1,7 +1,7 @@
 -- Spans of a text within a span.
-use Rattle.std.proofs.Common.{◌≡◌, ℕ, suc, zero, ◌<◌, ◌≤◌, ◌+◌, ◌-◌, List, [], ◌∷◌, length, take, drop, refl, sym, ap, ◌∙◌, arith}
+use Rattle.std.proofs.Common.{◌≡◌, ℕ, suc, zero, ◌≤◌, ◌+◌, ◌-◌, List, [], ◌∷◌, length, take, drop, refl, sym, ap, ◌∙◌, arith}
 use Rattle.std.proofs.lemmas.List.{drop-take, length-take, length-drop}
-use Rattle.std.specs.Prelude.{slice_range, min}
+use Rattle.std.specs.Prelude.{slice_range}
 use Rattle.gv_gotypes.specs.Literals.{unquoted}
 
 drop_none : (n : ℕ) → drop {A = ℕ} n [] ≡ []

@@ -4,6 +4,7 @@
 #![tactic(auto)]
 
 mod declared;
+mod imports;
 mod lookups;
 mod members;
 mod naming;
@@ -13,6 +14,7 @@ mod scopes;
 mod seen;
 
 pub use declared::{Declared, Procedure};
+pub use imports::declare_import;
 pub use lookups::is_blank;
 pub use naming::{declare_field, declare_name};
 pub use numbers::number_of;

@@ -19,7 +19,7 @@ use gv_operands::GoType;
 use std::alloc::Global;
 
 // A name that is declared again, unless it is `_`.
-fn twice_unless(new: bool, name: &[u8], start: u32) -> Option<Fault>
+pub(crate) fn twice_unless(new: bool, name: &[u8], start: u32) -> Option<Fault>
     ensures { result ≡ twice_by name.now new start }
 {
     if new || is_blank(name) {

@@ -1,4 +1,4 @@
-use Rattle.std.proofs.Common.{◌≡◌, ◌≤◌, ◌-◌, ℕ, length, drop}
+use Rattle.std.proofs.Common.{◌≡◌, ◌≤◌, ◌-◌, length, drop}
 use Rattle.gv_gotypes.specs.Literals.{last_element}
 use Rattle.gv_goseen.proofs.paths.element_start.Given as goal
 
