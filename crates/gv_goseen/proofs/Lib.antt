@@ -1,2 +1,3 @@
 mod MemberLemmas
 mod Spans
+mod Taken

@@ -16,7 +16,7 @@ mod seen;
 pub use declared::{Declared, Procedure};
 pub use imports::declare_import;
 pub use lookups::is_blank;
-pub use naming::{declare_field, declare_name};
+pub use naming::{declare_field, declare_method, declare_name};
 pub use numbers::number_of;
 pub use paths::{element_of, element_span, element_start, imported, unquoted};
 pub use seen::Seen;

@@ -3,11 +3,11 @@
 ghost use Rattle.std.specs.Prelude.{◌≡◌, ℕ, List as Seq, [], ◌∷◌, is_some, slice_range, IfOk, OnOk};
 ghost use Rattle.gv_gosyntax.specs.declared.lexeme.Lexeme.{Lexeme as AnyLexeme};
 ghost use Rattle.gv_gotypes.specs.Files as files;
-ghost use Rattle.gv_gotypes.specs.Scopes.{Source};
+ghost use Rattle.gv_gotypes.specs.Scopes.{Method, Package};
 ghost use Rattle.gv_gotyped.specs.First.{first_of};
 ghost use Rattle.gv_gonames.specs.Named.{spelled, with_named};
-ghost use Rattle.gv_gonames.specs.Structs.{kind_among, spelled as spelled_in, with_field};
-ghost use Rattle.gv_goseen.specs.Naming.{span_by, twice_by};
+ghost use Rattle.gv_gonames.specs.Structs.{kind_among, spelled as spelled_in, with_field, with_method};
+ghost use Rattle.gv_goseen.specs.Naming.{method_twice_in, span_by, twice_by, AreBelow, AreFrom, IsGrown};
 
 use crate::lookups::is_blank;
 use gv_base::{Code, NoMemory};
@@ -66,5 +66,25 @@ pub fn declare_field(
 {
     let span = span_of(name);
     let new = table.add_field(alloc, span, kind)?;
+    Ok(twice_unless(new, bytes_between(text, span), name.start))
+}
+
+/// Declares a method of a struct behind those before it, whose fields are all declared, by its number among the procedures: the
+/// fault that is told of it, where a field or one of the methods before is spelled alike.
+pub fn declare_method(
+    alloc: Global,
+    text: &[u8],
+    table: &mut StructTable,
+    name: Lexeme,
+    procedure: u32,
+) -> Result<Option<Fault>, NoMemory>
+    requires text { table.old.text ≡ text.now }
+    ensures told { IfOk result (λ fault. (p : Package) (number : ℕ) (rest : Seq Method)
+        → IsGrown p number table.old.struct rest → AreBelow procedure table.old.struct.methods → AreFrom procedure rest
+        → fault ≡ first_of (method_twice_in p procedure (spelled_in table.old (span_by name)) number name.start)) }
+    ensures declared { OnOk result (table.new ≡ with_method table.old (span_by name) procedure) }
+{
+    let span = span_of(name);
+    let new = table.add_method(alloc, span, procedure)?;
     Ok(twice_unless(new, bytes_between(text, span), name.start))
 }
