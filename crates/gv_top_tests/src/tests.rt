@@ -103,8 +103,16 @@ static ROWS: [Row; 11] = [
 ];
 
 fn answers<R: Abort>(rt: &R, alloc: Global, row: &Row) -> Result<(), Fail> {
+    answers_in(rt, alloc, row, &[])
+}
+
+// The same with words behind those of the command.
+fn answers_in<R: Abort>(rt: &R, alloc: Global, row: &Row, behind: &[&str]) -> Result<(), Fail> {
     let (script, fetches, puts, room, status, line) = *row;
-    let words = words_of(alloc, &["check", "p", "s", script])?;
+    let mut words = words_of(alloc, &["check", "p", "s", script])?;
+    for word in behind {
+        words.push(String::from_str(alloc, *word)?)?;
+    }
     let fetches = List::from_vec(Vec::from_slice(alloc, fetches)?);
     let mut files = MemFiles::new(adder(alloc)?, fetches);
     let puts = List::from_vec(Vec::from_slice(alloc, puts)?);
@@ -114,11 +122,95 @@ fn answers<R: Abort>(rt: &R, alloc: Global, row: &Row) -> Result<(), Fail> {
     Ok(())
 }
 
+// The same in JSON. The digests are those of `sha256sum`.
+static ROWS_IN_JSON: [Row; 8] = [
+    (
+        "t",
+        &[],
+        &[],
+        1000,
+        0,
+        "{\"digests\":[\"22f05fd13a7329eb3112306561ca2d97e684d0f6bc4cdc20f348c82be070ee1b\",\"af565c7b178d240f8160f42b8edd419299ffb8a8aaa7026cc8f33f9bc39e002c\",\"a9b4a8da98c1b34d9a580dbef08730cccd6a37eec5d5dc8daa60d8880c66ff96\"],\"lines\":[\"accepted for runs without crash\"],\"status\":0}\n",
+    ),
+    (
+        "x",
+        &[],
+        &[],
+        1000,
+        3,
+        "{\"digests\":[\"22f05fd13a7329eb3112306561ca2d97e684d0f6bc4cdc20f348c82be070ee1b\",\"af565c7b178d240f8160f42b8edd419299ffb8a8aaa7026cc8f33f9bc39e002c\"],\"lines\":[\"cannot read x\"],\"status\":3}\n",
+    ),
+    (
+        "a\nb",
+        &[],
+        &[],
+        1000,
+        3,
+        "{\"digests\":[\"22f05fd13a7329eb3112306561ca2d97e684d0f6bc4cdc20f348c82be070ee1b\",\"af565c7b178d240f8160f42b8edd419299ffb8a8aaa7026cc8f33f9bc39e002c\"],\"lines\":[\"cannot read a\\nb\"],\"status\":3}\n",
+    ),
+    (
+        "t",
+        &[1],
+        &[],
+        1000,
+        3,
+        "{\"digests\":[],\"lines\":[\"cannot read p\"],\"status\":3}\n",
+    ),
+    (
+        "t",
+        &[2],
+        &[],
+        1000,
+        3,
+        "{\"digests\":[\"22f05fd13a7329eb3112306561ca2d97e684d0f6bc4cdc20f348c82be070ee1b\"],\"lines\":[\"cannot read s\"],\"status\":3}\n",
+    ),
+    ("t", &[], &[1], 1000, 6, ""),
+    ("t", &[], &[], 12, 6, "{\"digests\":["),
+    (
+        "t",
+        &[],
+        &[2],
+        1000,
+        0,
+        "{\"digests\":[\"22f05fd13a7329eb3112306561ca2d97e684d0f6bc4cdc20f348c82be070ee1b\",\"af565c7b178d240f8160f42b8edd419299ffb8a8aaa7026cc8f33f9bc39e002c\",\"a9b4a8da98c1b34d9a580dbef08730cccd6a37eec5d5dc8daa60d8880c66ff96\"],\"lines\":[\"accepted for runs without crash\"],\"status\":0}\n",
+    ),
+];
+
 #[test]
 fn fails_where_the_outside_fails(rt: HostRuntime) -> Result<(), Fail> {
     for row in &ROWS {
         answers(&rt, rt.alloc(), row)?;
     }
+    Ok(())
+}
+
+#[test]
+fn fails_in_json_where_the_outside_fails(rt: HostRuntime) -> Result<(), Fail> {
+    for row in &ROWS_IN_JSON {
+        answers_in(&rt, rt.alloc(), row, &["json"])?;
+    }
+    Ok(())
+}
+
+// A run of 100,000 crashes, in 600,004 bytes.
+#[test]
+fn puts_a_long_report_in_pieces(rt: HostRuntime) -> Result<(), Fail> {
+    let alloc = rt.alloc();
+    let mut schedule = Vec::new(alloc);
+    for _ in 0..100_000_u32 {
+        schedule.extend_from_slice(b"crash\n")?;
+    }
+    let mut all = adder(alloc)?;
+    all.push(held(alloc, b"c", schedule.as_slice())?)?;
+    let mut files = SureFiles::new(all);
+    let words = words_of(alloc, &["replay", "p", "s", "c"])?;
+    let mut sink = MemSink::new(alloc, 1_000_000, List::new(alloc))?;
+    assert_eq!(rt; run(alloc, &words, &mut files, &mut sink), 0);
+    assert_eq!(rt; sink.written().as_slice().len(), 600_004);
+    let puts = List::from_vec(Vec::from_slice(alloc, &[2])?);
+    let mut sink = MemSink::new(alloc, 1_000_000, puts)?;
+    assert_eq!(rt; run(alloc, &words, &mut files, &mut sink), 6);
+    assert_eq!(rt; sink.written().as_slice().len(), 65_536);
     Ok(())
 }
 
