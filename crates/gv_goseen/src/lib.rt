@@ -12,6 +12,7 @@ mod numbers;
 mod paths;
 mod scopes;
 mod seen;
+mod tokens;
 
 pub use declared::{Declared, Procedure};
 pub use imports::declare_import;
@@ -20,3 +21,4 @@ pub use naming::{declare_field, declare_method, declare_name};
 pub use numbers::number_of;
 pub use paths::{element_of, element_span, element_start, imported, unquoted};
 pub use seen::Seen;
+pub use tokens::{next_of, token_before};

@@ -1,6 +1,7 @@
 //! What names stand for where a walk stands.
 
-ghost use Rattle.std.specs.Prelude.{◌≡◌};
+ghost use Rattle.std.specs.Prelude.{◌≡◌, codes, option_map, slice_get};
+ghost use Rattle.std.specs.Str.{bytes_eq};
 ghost use Rattle.gv_gotypes.specs.Scopes as scope;
 ghost use Rattle.gv_gotypes.specs.Members as members;
 ghost use Rattle.gv_gotypes.specs.Literals.{number_value};
@@ -8,8 +9,9 @@ ghost use Rattle.gv_operands.specs.Operators.{word_within};
 ghost use Rattle.gv_operands.specs.declared.types.Base.TheVariants.{Struct};
 ghost use Rattle.gv_gotyped.specs.Operands.{IsConstantFor};
 ghost use Rattle.gv_gotyped.specs.Parts.{IsMember};
-ghost use Rattle.gv_goseen.specs.Seen.{env_of, source_of};
+ghost use Rattle.gv_goseen.specs.Seen.{env_of, signature_of, source_of};
 
+use crate::declared::Procedure;
 use crate::members::member_as;
 use crate::numbers::number_of;
 use crate::seen::Seen;
@@ -39,12 +41,42 @@ impl<'a> Seen<'a> {
     pub fn found(&self, name: Lexeme) -> Option<Found>
         ensures { result ≡ scope.found (env_of self.now) (scope.name_in (source_of self.now) name) }
     {
-        let bytes = self.bytes(name);
+        self.found_spelled(self.bytes(name))
+    }
+
+    /// What a name of these bytes stands for.
+    pub fn found_spelled(&self, bytes: &[u8]) -> Option<Found>
+        ensures { result ≡ scope.found (env_of self.now) bytes.now }
+    {
         if is_blank(bytes) {
             return None;
         }
         let other = self.declared.names.entity(bytes);
         self.locals.found(bytes, other)
+    }
+
+    /// What the name `sync` stands for.
+    pub fn sync(&self) -> Option<Entity>
+        ensures { result ≡ scope.entity_named (env_of self.now) (codes "sync") }
+    {
+        match self.found_spelled(b"sync".as_slice()) {
+            Some(found) => Some(found.entity),
+            None => None,
+        }
+    }
+
+    /// Two names have the same bytes.
+    pub fn is_same(&self, first: Lexeme, other: Lexeme) -> bool
+        ensures { result ≡ bytes_eq (scope.name_in (source_of self.now) first) (scope.name_in (source_of self.now) other) }
+    {
+        self.bytes(first) == self.bytes(other)
+    }
+
+    /// What a procedure takes and gives, by its number; none, where no procedure has it.
+    pub fn procedure(&self, number: u32) -> Option<&Procedure>
+        ensures { option_map (λ p. signature_of p.now) result ≡ slice_get (env_of self.now).declared.procedures number }
+    {
+        self.declared.procedures.get(number as usize)
     }
 
     /// What a constant is by its declaration, where a name stands for one.
