@@ -1,5 +1,6 @@
 -- Members of structs by the tables.
-use Rattle.std.proofs.Common.{◌≡◌, ℕ, suc, zero, Bool, true, false, cond, List, [], ◌∷◌, length, Option, Some, None, option_map, refl, sym, subst, arith}
+use Rattle.std.specs.Prelude.{not, ◌&&◌, is_some}
+use Rattle.std.proofs.Common.{◌≡◌, ℕ, suc, zero, Bool, true, false, cond, List, [], ◌∷◌, length, Option, Some, None, option_map, refl, sym, subst, arith, ap}
 use Rattle.std.specs.Prelude.{nat_lt, slice_get, option_and_then}
 use Rattle.std.proofs.lemmas.Bool.{lt-ltb, le-ltb}
 use Rattle.std.specs.Str.{bytes_eq}
@@ -11,6 +12,11 @@ use Rattle.gv_gotyped.specs.declared.members.Member.TheVariants.{Other}
 use Rattle.gv_gotyped.specs.Parts.{IsMember}
 use Rattle.gv_gonames.specs.Structs.{kind_among, member_among}
 use Rattle.gv_gonames.specs.declared.rows.MemberRow.TheVariants as row
+use Rattle.gv_operands.specs.declared.types.Base.TheVariants.{Struct}
+use Rattle.gv_operands.specs.declared.part.Want.TheVariants.{Unknown}
+use Rattle.gv_gotypes.specs.Places.{want}
+use Rattle.gv_gotypes.specs.Calls.{fields_of, field_want, is_field, member_want}
+use Rattle.gv_goseen.specs.Keys.{wants_by, field_by}
 use Rattle.gv_goseen.specs.Seen.{member_by}
 
 -- what is known of a field, if there is one
@@ -58,3 +64,43 @@ members_so p s name e = subst (λ (b : Bool). IsMember known (cond b None told))
     step (Some k) (Some (ValueOf c)) h = elim h [ ]
     step (Some k) (Some (Called c)) h = elim h [ ]
     step (Some k) (Some TypeName) h = elim h [ ]
+
+-- ---- keys
+
+want_so : (k : Option (Option GoType)) (m : Option AnyMember) (o : Option ℕ) → IsField k m
+    → wants_by (Some (elim k [ None ↦ option_map row.Method o | Some k ↦ Some (row.Field k) ])) ≡ elim m [ None ↦ Unknown | Some m ↦ member_want m ]
+want_so None None None h = refl
+want_so None None (Some n) h = refl
+want_so (Some k) (Some (FieldOf n l)) o h = ap want h
+want_so None (Some m) o h = elim h [ ]
+want_so (Some k) None o h = elim h [ ]
+want_so (Some k) (Some (ValueOf c)) o h = elim h [ ]
+want_so (Some k) (Some (Called c)) o h = elim h [ ]
+want_so (Some k) (Some TypeName) o h = elim h [ ]
+
+pub wants_so : (p : Package) (number : ℕ) (name : List ℕ)
+    → wants_by (option_map (λ s. member_among s.fields s.methods name) (slice_get p.structs number)) ≡ field_want (fields_of p (Some (Struct number))) name
+wants_so p number name = step (slice_get p.structs number)
+  where
+    step : (o : Option StructType) → wants_by (option_map (λ s. member_among s.fields s.methods name) o) ≡ field_want (option_map (λ s. s.fields) o) name
+    step None = refl
+    step (Some s) = want_so (kind_among s.fields name) (field_from 0 s.fields name) (method_among s.methods name) (fields_so 0 s.fields name)
+
+there_so : (k : Option (Option GoType)) (m : Option AnyMember) (o : Option ℕ) (blank : Bool) → IsField k m
+    → field_by blank (Some (elim k [ None ↦ option_map row.Method o | Some k ↦ Some (row.Field k) ])) ≡ (not blank && is_some m)
+there_so None None None true h = refl
+there_so None None None false h = refl
+there_so None None (Some n) true h = refl
+there_so None None (Some n) false h = refl
+there_so (Some k) (Some m) o true h = refl
+there_so (Some k) (Some m) o false h = refl
+there_so None (Some m) o blank h = elim h [ ]
+there_so (Some k) None o blank h = elim h [ ]
+
+pub is_field_so : (p : Package) (number : ℕ) (name : List ℕ)
+    → field_by (is_blank name) (option_map (λ s. member_among s.fields s.methods name) (slice_get p.structs number)) ≡ is_field (fields_of p (Some (Struct number))) name
+is_field_so p number name = step (slice_get p.structs number)
+  where
+    step : (o : Option StructType) → field_by (is_blank name) (option_map (λ s. member_among s.fields s.methods name) o) ≡ is_field (option_map (λ s. s.fields) o) name
+    step None = refl
+    step (Some s) = there_so (kind_among s.fields name) (field_from 0 s.fields name) (method_among s.methods name) (is_blank name) (fields_so 0 s.fields name)

@@ -5,6 +5,7 @@
 
 mod declared;
 mod imports;
+mod keys;
 mod lookups;
 mod members;
 mod naming;
