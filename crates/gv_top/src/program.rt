@@ -27,13 +27,16 @@ fn deserved<F: Files>(alloc: Global, words: &Vec<String>, files: &mut F) -> (Rep
     }
 }
 
-/// Does all that the program does, and gives the status that it ends with: 0 accepted, explained or replayed to the
-/// end, 1 unjustified or not explained, 2 usage, 3 a file that can't be fetched, 4 a text that is refused, 5 want of
-/// memory, 6 a put that failed, 8 replayed up to an undefined event. The report is made whole before the first put, and is put in pieces of at most 65,536 bytes.
+/// Does all that the program does, and gives the status that it ends with: 0 accepted, explained, replayed to the end or
+/// judged with an explanation, 1 unjustified, not explained or judged to have no explanation, 2 usage, 3 a file that can't
+/// be fetched, 4 a text that is refused, 5 want of memory, 6 a put that failed, 7 nodes of a search that are spent, 8
+/// replayed up to an undefined event. The report is text, or behind a last word `json` one line of JSON with the digests
+/// of the files that were fetched. It is made whole before the first put, and is put in pieces of at most 65,536 bytes.
 /// This project's own.
 pub fn run<F: Files, K: Sink>(alloc: Global, words: &Vec<String>, files: &mut F, out: &mut K) -> u8
     // Where it accepts, every run of the package without a crash is explained by the specification; where it explains, the
-    // moves explain the history, and else they don't; where it replays, what it writes is the run of the schedule.
+    // moves explain the history, and else they don't; where it replays, what it writes is the run of the schedule; where it
+    // judges, what it writes is the first explanation within so many nodes, or that there is none, or that they are spent.
     ensures promise { Promise (texts words.now.items) (F.held files.old) (heard K.written K.faults out.old out.new) result }
 
     // Each status comes with the report that is deserved, and wherever it must.
