@@ -3,9 +3,11 @@ use Rattle.std.specs.Prelude.{◌≡◌, ℕ, List, [], ◌∷◌, Option, Some,
 use Rattle.gv_gosyntax.specs.declared.generated.gosyntax_table.TheConstants.{CLASS_NUMBER}
 use Rattle.gv_gosyntax.specs.declared.lexeme.Lexeme.{Lexeme}
 use Rattle.gv_operands.specs.declared.types.GoType.TheVariants.{Pointer}
+use Rattle.gv_operands.specs.declared.types.Value.{Value as ConstantValue}
 use Rattle.gv_operands.specs.declared.types.Class.{Class}
 use Rattle.gv_operands.specs.declared.types.Class.TheVariants.{Run}
 use Rattle.gv_operands.specs.declared.part.Part.{Part}
+use Rattle.gv_operands.specs.Operators.{word_within}
 use Rattle.gv_gotypes.specs.Trees.{Bound, left_out, bound}
 use Rattle.gv_gotypes.specs.Scopes.{Env, name_in}
 use Rattle.gv_gotypes.specs.Literals.{number_value}
@@ -26,9 +28,9 @@ IsBound env left_out None = Unit {0}
 IsBound env (bound e) (Some known) = IsOperand env e known
 IsBound env b known = ⊥
 
--- the value of a literal, where it is a number
-abbrev pub IsValueOf : Env → Lexeme → ℕ → Type 0
-IsValueOf env t value = t.class ≡ CLASS_NUMBER → value ≡ number_value (name_in env.source t)
+-- the value of a literal, where it is a number; from 2^64 on it has none
+abbrev pub IsValueOf : Env → Lexeme → Option ConstantValue → Type 0
+IsValueOf env t value = t.class ≡ CLASS_NUMBER → value ≡ word_within (number_value (name_in env.source t))
 
 -- what is known of a member as an operand
 abbrev pub IsThisMember : Member → AnyMember → Type 0

@@ -141,11 +141,11 @@ pub fn slice_operand(whole: Operand, low: Option<Operand>, high: Option<Operand>
 }
 
 // What a literal is.
-fn literal_class(class: u8, value: u64) -> Class
+fn literal_class(class: u8, value: Option<Value>) -> Class
     ensures { (env : Env) (t : AnyLexeme) → t.class ≡ class → IsValueOf env t value → result ≡ expr.literal_class env.source t }
 {
     match class {
-        CLASS_NUMBER => Class::Fixed(Kind::Untyped, Some(Value::Count(value))),
+        CLASS_NUMBER => Class::Fixed(Kind::Untyped, value),
         CLASS_TRUE => Class::Fixed(Kind::OfBool, Some(Value::Truth(true))),
         CLASS_FALSE => Class::Fixed(Kind::OfBool, Some(Value::Truth(false))),
         _ => Class::Nil,
@@ -153,7 +153,7 @@ fn literal_class(class: u8, value: u64) -> Class
 }
 
 /// A number with its value, `true`, `false` or `nil`.
-pub fn literal_operand(token: Lexeme, value: u64) -> Operand
+pub fn literal_operand(token: Lexeme, value: Option<Value>) -> Operand
     ensures { (env : Env) → IsValueOf env token value → IsOperand env (tree.Constant token) result }
 {
     let class = literal_class(token.class, value);

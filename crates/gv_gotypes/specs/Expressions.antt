@@ -15,7 +15,7 @@ use Rattle.gv_operands.specs.Types.{item_of, indexed}
 use Rattle.gv_operands.specs.declared.part.Spot.{Spot}
 use Rattle.gv_operands.specs.declared.part.Part.{Part}
 use Rattle.gv_gotypes.specs.Types.{Finding, Fault, Outer}
-use Rattle.gv_operands.specs.Operators.{binary, unary, to_word, to_byte, takes_word, dividing, ordering, equating}
+use Rattle.gv_operands.specs.Operators.{binary, unary, word_within, to_word, to_byte, takes_word, dividing, ordering, equating}
 use Rattle.gv_gotypes.specs.Scopes.{Source, Env, Entity, Imported, ConstantOf, Variable, Found, Library, Package, name_in, found, entity_named, constant_class}
 use Rattle.gv_gotypes.specs.Members.{Member, ValueOf, FieldOf, library_member, base_member}
 use Rattle.gv_gotypes.specs.Literals.{number_value}
@@ -29,9 +29,10 @@ plainly c = record { class = c; findings = [] }
 
 -- ---- names and literals
 
+-- a number from 2^64 on is a constant without a value; a text that has tokens has none such
 abbrev pub literal_class : Source → Lexeme → Class
 literal_class s t =
-    if t.class == CLASS_NUMBER then Fixed Untyped (Some (Count (number_value (name_in s t)))) else (
+    if t.class == CLASS_NUMBER then Fixed Untyped (word_within (number_value (name_in s t))) else (
     if t.class == CLASS_TRUE then Fixed OfBool (Some (Truth true)) else (
     if t.class == CLASS_FALSE then Fixed OfBool (Some (Truth false)) else Nil))
 

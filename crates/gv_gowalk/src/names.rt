@@ -10,7 +10,7 @@ ghost use Rattle.gv_gotyped.specs.Parts.{IsMember, IsValueOf};
 use gv_gosyntax::Lexeme;
 use gv_gotyped::Member;
 use gv_gotypes::{Found, Library};
-use gv_operands::{Base, Class};
+use gv_operands::{Base, Class, Value};
 
 /// Where something stands: the names that are seen there, and what they stand for.
 pub trait Names {
@@ -25,8 +25,8 @@ pub trait Names {
     fn constant(&self, found: Option<Found>) -> Option<Class>
         ensures { IsConstantFor (env self.now).declared found result };
 
-    /// The value of a literal that is a number.
-    fn value(&self, literal: Lexeme) -> u64
+    /// The value of a literal that is a number, or none from 2^64 on.
+    fn value(&self, literal: Lexeme) -> Option<Value>
         ensures { IsValueOf (env self.now) literal result };
 
     /// The member of a package with a name.
