@@ -3,6 +3,7 @@
 //! What a name stands for is defined in gv_gotypes. Each look-up takes no more steps where there are more names.
 #![tactic(auto)]
 
+mod answers;
 mod declared;
 mod imports;
 mod keys;
