@@ -1,5 +1,5 @@
 -- Left sides of other operands.
-use Rattle.std.proofs.Common.{◌≡◌, ℕ, ◌<◌, Bool, false, List, length, Option, Some, None, refl, sym, ap, subst, ◌∙◌, arith}
+use Rattle.std.proofs.Common.{◌≡◌, ℕ, ◌<◌, false, List, length, Option, Some, None, refl, sym, subst, ◌∙◌, arith}
 use Rattle.gv_gosyntax.specs.declared.generated.gosyntax_acts.Part.TheVariants.{Call as PCall}
 use Rattle.gv_gosyntax.specs.declared.lexeme.Lexeme.{Lexeme}
 use Rattle.gv_gosyntax.specs.declared.node.Node.{Node}
@@ -12,12 +12,12 @@ use Rattle.gv_gotypes.specs.Trees as plain
 use Rattle.gv_gotypes.specs.Trees.{Expr, Select}
 use Rattle.gv_gotypes.specs.Scopes.{Env, name_in}
 use Rattle.gv_gotypes.specs.Members.{library_member}
-use Rattle.gv_gotypes.specs.Places.{start_of, spot_of, part_of}
+use Rattle.gv_gotypes.specs.Places.{start_of, spot_of}
 use Rattle.gv_gotypes.specs.Expressions.{operand, library_of}
-use Rattle.gv_gotypes.specs.Assigning.{Target as AnyTarget, target, field_target, member_target, also}
+use Rattle.gv_gotypes.specs.Assigning.{target, field_target, member_target, also}
 use Rattle.gv_gotyped.specs.declared.fault.Fault.{Fault}
 use Rattle.gv_gotyped.specs.declared.outcomes.Operand.{Operand}
-use Rattle.gv_gotyped.specs.First.{first_of, earliest}
+use Rattle.gv_gotyped.specs.First.{earliest}
 use Rattle.gv_gotyped.specs.Operands.{IsOperand}
 use Rattle.gv_gotyped.proofs.Firsts.{first_of_two}
 use Rattle.gv_gocalls.specs.Forms.{IsOther}

@@ -1,5 +1,5 @@
 -- What is known of a left side.
-use Rattle.std.specs.Prelude.{◌≡◌, ℕ, Bool, false, List, [], Option, Some, None}
+use Rattle.std.specs.Prelude.{◌≡◌, ℕ, Bool, false, List, [], Some, None}
 use Rattle.gv_operands.specs.declared.part.Part.{Part}
 use Rattle.gv_gotypes.specs.Types.{Finding}
 use Rattle.gv_gotypes.specs.Trees.{Expr, Name}

@@ -5,9 +5,11 @@
 #![tactic(auto)]
 
 mod counted;
+mod lefts;
 mod rights;
 mod targets;
 
 pub use counted::{counted_at, update_at};
+pub use lefts::{defined_at, is_new_at, is_old_at, pair_target_at};
 pub use rights::right_at;
 pub use targets::{Target, start_at, target_at};

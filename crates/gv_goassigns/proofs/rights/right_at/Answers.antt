@@ -1,4 +1,4 @@
-use Rattle.std.proofs.Common.{◌≡◌, ℕ, List, [], ◌∷◌, Option, sym, ap, ◌∙◌}
+use Rattle.std.proofs.Common.{ℕ, List, [], ◌∷◌, Option, sym, ap, ◌∙◌}
 use Rattle.gv_gosyntax.specs.declared.tree.Right.{Right as DeclaredRight}
 use Rattle.gv_operands.specs.declared.types.GoType.{GoType}
 use Rattle.gv_operands.specs.declared.part.Want.{Want}
@@ -8,7 +8,6 @@ use Rattle.gv_gotypes.specs.Assigning.{right_findings, result_findings}
 use Rattle.gv_gotyped.specs.First.{first_of}
 use Rattle.gv_gotyped.proofs.Firsts.{first_of_two}
 use Rattle.gv_gowalk.proofs.Steps.{expr_there}
-use Rattle.gv_gocalls.specs.Answers.{results_of}
 use Rattle.gv_goassigns.proofs.TargetLemmas.{call_there}
 use Rattle.gv_goassigns.proofs.rights.right_at.Goals as goal
 
