@@ -1,7 +1,9 @@
 #!/usr/bin/env python3
 """Proves and builds the program and the crates below it, those that don't need one another side by side.
 
-Tells on standard error which crate is done and how long it took. Ends with 1 where one isn't proved.
+  build.py            builds, and tells on standard error which crate is done and how long it took; ends with 1 where one
+                      isn't proved
+  build.py sources    only writes the list of files by which the launcher sees whether the program is older than its code
 """
 import concurrent.futures as futures
 import os
@@ -12,6 +14,7 @@ import time
 TOP = os.path.dirname(os.path.dirname(os.path.abspath(__file__)))
 PROGRAM = "goosecheck"
 BUILT = f"{TOP}/crates/{PROGRAM}/out/{PROGRAM}"
+SOURCES = f"{TOP}/crates/{PROGRAM}/out/sources"
 
 
 def say(text):
@@ -36,6 +39,20 @@ def needs_of():
             if colon and head.split():
                 needs[head.split()[0]] = deps.split()
     return needs
+
+
+def write_sources(names):
+    """Writes the files that the program is made from, with their folders, whose times change where a file comes or goes."""
+    found = []
+    for name in names:
+        for part in ("src", "specs"):
+            for at, folders, files in os.walk(f"{TOP}/crates/{name}/{part}"):
+                folders.sort()
+                found += [at, *(f"{at}/{it}" for it in sorted(files) if it.endswith((".rt", ".antt")))]
+    os.makedirs(os.path.dirname(SOURCES), exist_ok=True)
+    lines = "\n".join(os.path.relpath(it, TOP) for it in found)
+    with open(SOURCES, "w", encoding="utf-8") as it:
+        it.write(f"sources='{lines}'\n")
 
 
 def made(name):
@@ -75,13 +92,16 @@ def build(names, needs):
 
 
 def main():
+    needs = needs_of()
+    names = below(PROGRAM, needs, [])
+    write_sources(names)
+    if sys.argv[1:] == ["sources"]:
+        return 0
     try:
         subprocess.run(["rt", "version"], stdout=subprocess.DEVNULL, check=True)
     except (OSError, subprocess.CalledProcessError):
         say("the program is not built, and there is no rt to build it")
         return 1
-    needs = needs_of()
-    names = below(PROGRAM, needs, [])
     say(f"proving and building {len(names)} crates, which takes some minutes the first time")
     if not build(names, needs):
         return 1
