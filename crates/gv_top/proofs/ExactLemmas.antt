@@ -13,8 +13,9 @@ use Rattle.gv_top.specs.Check.{report_of as check_report}
 use Rattle.gv_top.specs.Explain.{report_of as explain_report}
 use Rattle.gv_top.specs.Replay.{report_of as replay_report}
 use Rattle.gv_top.specs.Judge.{report_of as judge_report}
-use Rattle.gv_top.specs.Commands.{Command, check, explain, replay, judge, Comes, reported, format_for}
+use Rattle.gv_top.specs.Commands.{Command, check, explain, replay, judge, Comes, format_for}
 use Rattle.gv_top.specs.Files.{Asked, IsBlamed, outside, as_told}
+use Rattle.gv_top.specs.Outcome.{reported}
 use Rattle.gv_top.specs.Run.{Gives, usage, done, Deserves, Defines, IsBlamedIn, OnlyAbsentFailed, NoPutFailed, IsTold}
 use Rattle.gv_top.proofs.CheckExact.{checks_same}
 use Rattle.gv_top.proofs.CommandLemmas.{one_command}

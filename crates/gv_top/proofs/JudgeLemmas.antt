@@ -25,8 +25,9 @@ use Rattle.gv_report.specs.Report.{joined, status_of, text_of}
 use Rattle.gv_top.specs.declared.files.Halt.{Halt}
 use Rattle.gv_top.specs.declared.judge.Judgement.{Judgement}
 use Rattle.gv_top.specs.declared.judge.Judgement.TheVariants.{Explained, Unexplained, Spent}
-use Rattle.gv_top.specs.Commands.{Command, check, explain, replay, judge, Asks, Comes, reported, format_for}
+use Rattle.gv_top.specs.Commands.{Command, check, explain, replay, judge, Asks, Comes, format_for}
 use Rattle.gv_top.specs.Files.{Asked, Source, Finishes, Reads, outside, noted_all}
+use Rattle.gv_top.specs.Outcome.{reported}
 use Rattle.gv_top.specs.Forms.{written_specs, histories_of}
 use Rattle.gv_top.specs.Judge.{Tells, IsFirstFull, AreNoneFull, AreSpent, Judges, report_of}
 use Rattle.gv_top.specs.Promise.{JudgedPromise}

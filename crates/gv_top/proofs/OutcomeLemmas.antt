@@ -20,8 +20,8 @@ use Rattle.gv_top.specs.Replay.{report_of as replay_report}
 use Rattle.gv_top.specs.declared.judge.Judgement.{Judgement}
 use Rattle.gv_top.specs.declared.judge.Judgement.TheVariants as judgement
 use Rattle.gv_top.specs.Judge.{report_of as judge_report}
-use Rattle.gv_top.specs.Commands.{reported}
 use Rattle.gv_top.specs.Files.{Asked, Source, Form, Reads, HaltsAt, Course, Then, IsBlamed, NoneFailed}
+use Rattle.gv_top.specs.Outcome.{reported}
 use Rattle.gv_top.specs.Run.{IsBlamedIn}
 
 -- ---- the reports of a command's own: neither of a halt, nor of words that are no command

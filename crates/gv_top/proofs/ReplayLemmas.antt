@@ -37,8 +37,9 @@ use Rattle.gv_report.specs.Report.{joined, status_of, text_of}
 use Rattle.gv_top.specs.declared.files.Halt.{Halt}
 use Rattle.gv_top.specs.declared.replay_forms.WrittenPackage.{WrittenPackage}
 use Rattle.gv_top.specs.declared.replay_forms.WrittenSpec.{WrittenSpec}
-use Rattle.gv_top.specs.Commands.{Command, check, explain, replay, judge, Asks, Comes, reported, format_for}
+use Rattle.gv_top.specs.Commands.{Command, check, explain, replay, judge, Asks, Comes, format_for}
 use Rattle.gv_top.specs.Files.{Asked, Source, Reads, outside, noted_all}
+use Rattle.gv_top.specs.Outcome.{reported}
 use Rattle.gv_top.specs.Forms.{packages, written_specs}
 use Rattle.gv_top.specs.Promise.{ReplayedPromise}
 use Rattle.gv_top.specs.Replay.{IsReplayed, Plays, Replays, report_of as replay_report}

@@ -32,8 +32,9 @@ use Rattle.gv_top.specs.Explain as explaining
 use Rattle.gv_top.specs.Explain.{Explains, report_of as explain_report}
 use Rattle.gv_top.specs.Replay.{report_of as replay_report}
 use Rattle.gv_top.specs.Judge.{report_of as judge_report}
-use Rattle.gv_top.specs.Commands.{Command, check, explain, replay, judge, Asks, IsNoCommand, Comes, reported, format_for}
+use Rattle.gv_top.specs.Commands.{Command, check, explain, replay, judge, Asks, IsNoCommand, Comes, format_for}
 use Rattle.gv_top.specs.Files.{Asked, Source, Reads, Ends, Finishes, outside}
+use Rattle.gv_top.specs.Outcome.{reported}
 use Rattle.gv_top.specs.Forms.{packages, specs_for, scripts_for, written_specs, histories_of, moves_of}
 use Rattle.gv_top.specs.Promise.{AcceptedPromise, ExplainedPromise}
 use Rattle.gv_top.specs.Run.{Gives, usage, done, Deserves, Answers, IsCutOff}

@@ -6,6 +6,7 @@ pub mod Files
 pub mod Forms
 pub mod Judge
 pub mod Laws
+pub mod Outcome
 pub mod Packages
 pub mod Promise
 pub mod Reading

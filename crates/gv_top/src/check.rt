@@ -2,12 +2,12 @@
 
 ghost use Rattle.std.specs.Prelude.{◌≡◌, ℕ, List as Seq, length};
 ghost use Rattle.gv_top.specs.Check as checking;
-ghost use Rattle.gv_top.specs.Commands.{reported};
 ghost use Rattle.gv_top.specs.Files.{asked, outside, IsBlamed};
 
 use crate::comparing::first_difference;
 use crate::files::{Halt, read_file};
 use crate::forms::{Packages, ScriptsFor, SpecsFor};
+use crate::outcome::Outcome;
 use crate::small_script::SmallScript;
 use gv_base::{Files, Place, Small};
 use gv_report::{Cause, Format, Report};
@@ -30,11 +30,10 @@ pub enum Verdict {
     AcceptedWithoutCrash,
 }
 
-impl Verdict {
-    /// The report that says so.
-    pub fn report(self) -> Report
-        ensures { result ≡ checking.report_of self }
-    {
+impl Outcome for Verdict {
+    ghost report_of = { checking.report_of };
+
+    fn report(self) -> Report {
         match self {
             Verdict::Unjustified { place, cause } => Report::Unjustified { place, cause },
             Verdict::AcceptedWithoutCrash => Report::AcceptedWithoutCrash,

@@ -7,6 +7,7 @@ ghost use Rattle.gv_top.specs.Files.{asked, outside, Finishes, IsBlamed};
 
 use crate::files::{Halt, read_file};
 use crate::forms::{HistoriesOf, MovesOf, Specs};
+use crate::outcome::Outcome;
 use gv_base::Files;
 use gv_history::{WalkCause, WalkFault, walk};
 use gv_report::{Format, Report};
@@ -30,11 +31,10 @@ pub enum Explanation {
     NotExplained { at: u32, cause: WalkCause },
 }
 
-impl Explanation {
-    /// The report that says so.
-    pub fn report(self) -> Report
-        ensures { result ≡ explaining.report_of self }
-    {
+impl Outcome for Explanation {
+    ghost report_of = { explaining.report_of };
+
+    fn report(self) -> Report {
         match self {
             Explanation::Explained => Report::Explained,
             Explanation::NotExplained { at, cause } => Report::NotExplained { at, cause },

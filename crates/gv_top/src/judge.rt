@@ -8,6 +8,7 @@ ghost use Rattle.gv_top.specs.Files.{asked, outside, Finishes, IsBlamed};
 
 use crate::files::{Halt, read_file};
 use crate::forms::{HistoriesOf, Specs};
+use crate::outcome::Outcome;
 use gv_base::{Files, List, Name};
 use gv_judge::Judged;
 use gv_lines::move_lines;
@@ -39,11 +40,10 @@ pub enum Judgement {
     Spent { most: u64 },
 }
 
-impl Judgement {
-    /// The report that says so.
-    pub fn report(self) -> Report
-        ensures { result ≡ judging.report_of self }
-    {
+impl Outcome for Judgement {
+    ghost report_of = { judging.report_of };
+
+    fn report(self) -> Report {
         match self {
             Judgement::Explained { lines } => Report::Moves { lines },
             Judgement::Unexplained => Report::NoExplanation,

@@ -9,6 +9,7 @@ mod files;
 mod forms;
 mod judge;
 mod laws;
+mod outcome;
 mod program;
 mod replay;
 mod replay_forms;

@@ -10,6 +10,7 @@ ghost use Rattle.gv_top.specs.Files.{asked, outside, IsBlamed};
 ghost use Rattle.gv_top.specs.Replay as replaying;
 
 use crate::files::{Halt, read_file};
+use crate::outcome::Outcome;
 use crate::replay_forms::{
     SchedulesOf, WrittenPackage, WrittenPackages, WrittenSpec, WrittenSpecs,
 };
@@ -18,7 +19,7 @@ use gv_interfaces::{Difference, first_difference};
 use gv_lines::entry_lines;
 use gv_played::{Ran as Run, ReplayFault};
 use gv_replay::Schedule;
-use gv_report::{Format, Ran};
+use gv_report::{Format, Ran, Report};
 use gv_smallprogram::program_of;
 use gv_spec::Spec;
 use std::alloc::Global;
@@ -29,6 +30,14 @@ pub struct ReplayWords<'a> {
     pub package: &'a str,
     pub spec: &'a str,
     pub schedule: &'a str,
+}
+
+impl Outcome for Ran {
+    ghost report_of = { replaying.report_of };
+
+    fn report(self) -> Report {
+        Report::Ran(self)
+    }
 }
 
 // Whether the operations are the same; else the halt where they first differ.
