@@ -148,6 +148,7 @@ module _ (o : Proof) (w : World) (g : Ghost) (env : Env) (olds news : List TermT
     failures = c.failures;
     fields = valued_long env news ∙ as_many ∙ long;
     names = c.names;
+    unguarded = c.unguarded;
     walked = walked_boot o.atomic g c.walked choices (valued env news) crashed;
   }
 

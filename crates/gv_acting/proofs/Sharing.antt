@@ -1,9 +1,9 @@
 -- Recovery shares what it owns.
-use Rattle.std.proofs.Common.{◌≡◌, ◌≤◌, Bool, true, false, if◌then◌else◌, List, [], ◌∷◌, refl, arith}
+use Rattle.std.proofs.Common.{◌≡◌, ◌≢◌, ◌≤◌, Bool, true, false, if◌then◌else◌, List, [], ◌∷◌, refl, sym, ◌∙◌, arith}
 use Rattle.gv_terms.specs.declared.value.Env.{Env}
 use Rattle.gv_world.specs.Store.{Store as World}
 use Rattle.gv_resources.specs.Kinds.{Kind, is_token_free}
-use Rattle.gv_resources.specs.Ghost.{Ghost, Mode, Sharing, Shared}
+use Rattle.gv_resources.specs.Ghost.{Ghost, Mode, Owned, Sharing, Shared}
 use Rattle.gv_resources.specs.Pieces.{Resource, Have, Piece, part_of}
 use Rattle.gv_assertions.specs.Atoms.{Atom, Predicate}
 use Rattle.gv_assertions.specs.Standing.{StandForAll, both}
@@ -51,13 +51,14 @@ mode_changes g m = record {
   gone = refl;
 }
 
-consistent_in : (o : Proof) (w : World) (g : Ghost) (m : Mode) → IsConsistent o w g → IsConsistent o w (in_mode g m)
-consistent_in o w g m c = record {
+consistent_in : (o : Proof) (w : World) (g : Ghost) (m : Mode) → g.mode ≢ Shared → IsConsistent o w g → IsConsistent o w (in_mode g m)
+consistent_in o w g m unshared c = record {
   fresh = λ object l. (let u = c.fresh object l in record { guards = u.guards; sliced = u.sliced; frozen = u.frozen });
   blocks = record { as_many = c.blocks.as_many; sized = c.blocks.sized; same = c.blocks.same; long = c.blocks.long; whole = c.blocks.whole };
   failures = c.failures;
   fields = c.fields;
   names = c.names;
+  unguarded = λ never. c.unguarded unshared;
   walked = record {
     entries = c.walked.entries;
     passes = c.walked.passes;
@@ -102,7 +103,7 @@ begins_law o h k (begins_sharing left not_booted owned recovers closed drops fre
           mode = refl;
           crash = λ shared. absurd (not_shared shared);
           free = seat.base.free;
-          consistent = consistent_in o w g Sharing seat.base.consistent;
+          consistent = consistent_in o w g Sharing (λ shared. owned_only (sym (seat.base.mode ∙ owned) ∙ shared)) seat.base.consistent;
         };
         still = seat.still;
       };
@@ -110,6 +111,9 @@ begins_law o h k (begins_sharing left not_booted owned recovers closed drops fre
   where
     not_shared : Sharing ≡ Shared → ⊥
     not_shared e = cc
+
+    owned_only : Owned ≡ Shared → ⊥
+    owned_only e = cc
 
 ends_law : (o : Proof) (h k : Path) → EndsSharing o h k → IsSoundMove o (λ env. Shares) h (k ∷ [])
 ends_law o h k (ends_sharing left sharing closed takes) w g start f rest seat =
@@ -144,11 +148,14 @@ ends_law o h k (ends_sharing left sharing closed takes) w g start f rest seat =
           mode = refl;
           crash = λ shared b env args values. at_values o.preds seat.env env o.crash [] args q values stands;
           free = seat.base.free;
-          consistent = consistent_in o w g Shared seat.base.consistent;
+          consistent = consistent_in o w g Shared (λ shared. sharing_only (sym (seat.base.mode ∙ sharing) ∙ shared)) seat.base.consistent;
         };
         still = seat.still;
       };
     }
+  where
+    sharing_only : Sharing ≡ Shared → ⊥
+    sharing_only e = cc
 
 pub sharing_law : SharingLaw
 sharing_law o h k = record { begin = begins_law o h k; end = ends_law o h k }

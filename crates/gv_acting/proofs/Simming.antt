@@ -280,6 +280,7 @@ module _ (o : Proof) (w : World) (g : Ghost) (h : Path) (env : Env) (n operation
     failures = c.failures;
     fields = valued_long env news ∙ as_many ∙ long;
     names = c.names;
+    unguarded = c.unguarded;
     walked = walked_after o.atomic g c.walked n operation (valued env args) choices (valued env news) (reply_under env reply) called does;
   }
 

@@ -314,6 +314,7 @@ module _ (o : Proof) (w : World) (g : Ghost) (d n : ℕ) (v : Value) (b : Block 
     };
     fields = c.fields;
     names = c.names;
+    unguarded = c.unguarded;
     walked = record {
       entries = c.walked.entries;
       passes = c.walked.passes;

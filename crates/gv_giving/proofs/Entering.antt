@@ -29,7 +29,7 @@ use Rattle.gv_instances.proofs.Agreeing.{closed_law}
 use Rattle.gv_instances.proofs.Assertions.{all_out}
 use Rattle.gv_instances.proofs.Trees.{put_value}
 use Rattle.gv_seats.specs.Paths.{Path, Procedure, goes_on}
-use Rattle.gv_seats.specs.Seats.{Proof, Seat, Described, HaveValues}
+use Rattle.gv_seats.specs.Seats.{Proof, Seat, Pair, Described, HaveValues}
 use Rattle.gv_seats.specs.Soundness.{Calls, calls, Spawns, spawns, at_rest}
 use Rattle.gv_seats.proofs.Bases.{base_after}
 use Rattle.gv_giving.specs.Rows.{Gives, calls_one, spawns_one, vars_of, AreDistinct, param_terms, start_path}
@@ -149,9 +149,7 @@ calls_law o program h waiting callee given (calls_one xs number es p proc _ left
     let a = entered o w g start f h rest seat p proc es given left number xs gives in
     let step = call_step program extra w f below number es proc a.args.vs place next is_proc a.args.there xs (seat.described.todo ∙ todo) in
     let d = seat.described in
-    subst (λ (answer : Answer Stepped). Calls o g start below (record h { todo = next; atoms = left; stepped = true }) (start_path p proc) given seat.env rest answer) (sym step)
-    (calls (subst (λ (vars : List Var). AgreeOnVars (start_values seat.env given) (given_under given seat.env) vars) (sym gives.vars) (starts_agree seat.env given gives.sorted))
-    (record {
+    let pair : Pair o w g start (record f { todo = next }) (record h { todo = next; atoms = left; stepped = true }) (start_values seat.env given) (new_frame number proc a.args.vs xs) (start_path p proc) rest = record {
       env = seat.env;
       other_env = start_values seat.env given;
       piece = a.kept;
@@ -168,7 +166,9 @@ calls_law o program h waiting callee given (calls_one xs number es p proc _ left
         consistent = seat.base.consistent;
       };
       still = seat.still;
-    }))
+    } in
+    subst (λ (answer : Answer Stepped). Calls o g start below (record h { todo = next; atoms = left; stepped = true }) (start_path p proc) given rest answer) (sym step)
+    (calls pair (subst (λ (vars : List Var). AgreeOnVars (start_values seat.env given) (given_under given seat.env) vars) (sym gives.vars) (starts_agree seat.env given gives.sorted)))
 
 pub spawns_law : SpawnsLaw
 spawns_law o program h k callee given (spawns_one number es p proc _ left place next may shared todo is_proc gives mode) extra w g start f below rest seat =

@@ -49,6 +49,7 @@ consistent_objects o w g objects as_many c = record {
   failures = record { one = c.failures.one; of_two = c.failures.of_two };
   fields = c.fields;
   names = c.names;
+  unguarded = c.unguarded;
   walked = c.walked;
 }
 

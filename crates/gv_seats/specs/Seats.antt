@@ -122,6 +122,8 @@ pub record IsConsistent (o : Proof) (w : World) (g : Ghost) : Type 0 where
   pub fields : length g.walk.fields ≡ length o.leased
   -- no halves have a name that is as long as names may be chosen from now on
   pub names : (name : List ℕ) → g.named ≤ length name → g.halves name ≡ None
+  -- until recovery shares what it owns no mutex guards anything
+  pub unguarded : g.mode ≢ Shared → (object : ℕ) → g.guards object ≡ None
   pub walked : Walked o.atomic g
 
 -- ---- all together

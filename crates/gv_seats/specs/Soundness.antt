@@ -69,17 +69,17 @@ pub record IsSoundWrite (o : Proof) (h : Path) (ks : List Path) : Type 0 where
 
 -- ---- calls
 
--- the frame of a call stands at the callee's path, whose variables have the values of the given terms; its caller waits at a path, and will go on from it
-pub data Calls (o : Proof) (g : Ghost) (start : Env) (below : List Frame) (waiting callee : Path) (given : List Given) (env : Env) (rest : Piece)
-    : Answer Stepped → Type 0 where
-  calls : {w : World} {caller new : Frame} {values : Env} → AgreeOnVars values (given_under given env) callee.procedure.start
-      → Pair o w g start caller waiting values new callee rest
-      → Calls o g start below waiting callee given env rest (Next (GoesOn w (at_rest new (caller ∷ below)) []))
+-- the frame of a call stands at the callee's path; its caller waits at a path, and will go on from it; under the valuation by which it waits the given terms
+-- have the values of the callee's variables
+pub data Calls (o : Proof) (g : Ghost) (start : Env) (below : List Frame) (waiting callee : Path) (given : List Given) (rest : Piece) : Answer Stepped → Type 0 where
+  calls : {w : World} {caller new : Frame} {values : Env} → (pair : Pair o w g start caller waiting values new callee rest)
+      → AgreeOnVars values (given_under given pair.env) callee.procedure.start
+      → Calls o g start below waiting callee given rest (Next (GoesOn w (at_rest new (caller ∷ below)) []))
 
 abbrev pub IsSoundCall : Proof → Program → Path → (waiting callee : Path) → List Given → Type 0
 IsSoundCall o program h waiting callee given =
-    (extra : ℕ) (w : World) (g : Ghost) (start : Env) (f : Frame) (below : List Frame) (rest : Piece) → (seat : Seat o w g start f h rest)
-    → Calls o g start below waiting callee given seat.env rest (stepped program extra (at_rest f below) w)
+    (extra : ℕ) (w : World) (g : Ghost) (start : Env) (f : Frame) (below : List Frame) (rest : Piece) → Seat o w g start f h rest
+    → Calls o g start below waiting callee given rest (stepped program extra (at_rest f below) w)
 
 -- the same of a new thread, beside which the frame goes on
 pub data Spawns (o : Proof) (g : Ghost) (start : Env) (below : List Frame) (k callee : Path) (given : List Given) (env : Env) (rest : Piece)

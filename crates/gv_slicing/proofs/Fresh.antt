@@ -249,6 +249,7 @@ module _ (o : Proof) (w : World) (g : Ghost) (cells : List Cell) (c : IsConsiste
     failures = record { one = c.failures.one; of_two = c.failures.of_two };
     fields = c.fields;
     names = c.names;
+    unguarded = c.unguarded;
     walked = record {
       entries = c.walked.entries;
       passes = c.walked.passes;
