@@ -1,0 +1,6 @@
+mod Noted
+mod Moves
+mod Numbering
+mod Alike
+mod First
+mod Stays

@@ -1,0 +1,9 @@
+pub mod Atoms
+pub mod Stamps
+pub mod Heaps
+pub mod Predicates
+pub mod Kinds
+pub mod Keeping
+pub mod Knowing
+pub mod Keys
+pub mod Staying
