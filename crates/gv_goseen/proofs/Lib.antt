@@ -1,3 +1,5 @@
+mod AgainLemmas
+mod CalledLemmas
 mod MemberLemmas
 mod Spans
 mod Taken

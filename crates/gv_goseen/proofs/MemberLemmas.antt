@@ -20,12 +20,12 @@ use Rattle.gv_goseen.specs.Keys.{wants_by, field_by}
 use Rattle.gv_goseen.specs.Seen.{member_by}
 
 -- what is known of a field, if there is one
-abbrev IsField : Option (Option GoType) → Option AnyMember → Type 0
+abbrev pub IsField : Option (Option GoType) → Option AnyMember → Type 0
 IsField None None = Unit {0}
 IsField (Some k) (Some (FieldOf n l)) = k ≡ l
 IsField k m = ⊥
 
-fields_so : (n : ℕ) (fs : List FieldType) (name : List ℕ) → IsField (kind_among fs name) (field_from n fs name)
+pub fields_so : (n : ℕ) (fs : List FieldType) (name : List ℕ) → IsField (kind_among fs name) (field_from n fs name)
 fields_so n [] name = tt
 fields_so n (f ∷ fs) name = step (bytes_eq f.name name) (fields_so (suc n) fs name)
   where

@@ -22,6 +22,22 @@ take_on (suc a) zero xs h = absurd (omega (arith, h))
 take_on (suc a) (suc b) [] h = refl
 take_on (suc a) (suc b) (x ∷ xs) h = ap (λ ys. x ∷ ys) (take_on a b xs (omega (arith, h)))
 
+take_over : (n : ℕ) (xs : List ℕ) → length xs ≤ n → take n xs ≡ xs
+take_over zero [] h = refl
+take_over zero (x ∷ xs) h = absurd (omega (arith, h))
+take_over (suc n) [] h = refl
+take_over (suc n) (x ∷ xs) h = ap (λ ys. x ∷ ys) (take_over n xs (omega (arith, h)))
+
+-- a span past a text ends with it
+pub range_over : (text : List ℕ) (s e : ℕ) → length text ≤ e → slice_range text s e ≡ slice_range text s (length text)
+range_over text s e h =
+    take_over (e - s) (drop s text) (omega (arith, length-drop s text, h))
+    ∙ sym (take_over (length text - s) (drop s text) (omega (arith, length-drop s text)))
+
+-- a span with two bytes
+pub two_within : (text : List ℕ) (s e : ℕ) → 2 ≤ length (slice_range text s e) → s + 2 ≤ e
+two_within text s e h = omega (arith, length-take (e - s) (drop s text), h)
+
 pub range_length : (text : List ℕ) (s e : ℕ) → s ≤ e → e ≤ length text → length (slice_range text s e) ≡ e - s
 range_length text s e h within = length-take (e - s) (drop s text) ∙ omega (arith, length-drop s text, h, within)
 

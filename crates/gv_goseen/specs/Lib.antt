@@ -1,3 +1,4 @@
+pub mod Called
 pub mod Keys
 pub mod Naming
 pub mod Seen

@@ -1,6 +1,5 @@
 -- What is seen where a walk stands, by the tables that are kept of it.
 use Rattle.std.specs.Prelude.{ℕ, nat_lt, if◌then◌else◌, List, map, Option, Some, None}
-use Rattle.gv_operands.specs.declared.types.GoType.{GoType}
 use Rattle.gv_gotypes.specs.Scopes.{Source, Signature, StructType, Package, Env}
 use Rattle.gv_gotyped.specs.declared.members.Member.{Member}
 use Rattle.gv_gotyped.specs.declared.members.Member.TheVariants.{Field, Other}
@@ -28,7 +27,7 @@ package_of d = record {
 }
 
 abbrev pub source_of : Seen → Source
-source_of s = record { text = s.text.now; tokens = s.tokens.now }
+source_of s = record { text = s.text.now; tokens = s.tokens }
 
 -- what is seen where these entries stand around
 abbrev pub env_with : Seen → Around → Env
@@ -39,10 +38,6 @@ env_of s = env_with s s.locals.here
 
 abbrev pub outer_of : Seen → List Env
 outer_of s = map (env_with s) s.locals.outer
-
--- within a function that gives results of these types
-abbrev pub with_results : Env → List (Option GoType) → Env
-with_results env results = record { source = env.source; declared = env.declared; entries = env.entries; results = results }
 
 -- what is known of a member of a struct as an operand, where there are so many procedures
 abbrev pub member_by : ℕ → Option MemberRow → Option Member

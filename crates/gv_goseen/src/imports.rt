@@ -1,6 +1,6 @@
 //! The imports of a package, one after another.
 
-ghost use Rattle.std.specs.Prelude.{◌≡◌, ◌≤◌, List as Seq, [], ◌∷◌, ◌++◌, length, IfOk, OnOk};
+ghost use Rattle.std.specs.Prelude.{◌≡◌, List as Seq, [], ◌∷◌, ◌++◌, IfOk, OnOk};
 ghost use Rattle.gv_gosyntax.specs.declared.lexeme.Lexeme.{Lexeme as AnyLexeme};
 ghost use Rattle.gv_gotypes.specs.Declarations.{import_names};
 ghost use Rattle.gv_gotypes.specs.Files.{import_findings};
@@ -25,9 +25,7 @@ pub fn declare_import(
     names: &mut NameTable,
     path: Lexeme,
 ) -> Result<Option<Fault>, NoMemory>
-    requires text { names.old.text ≡ text.now }
-    requires ordered { path.start ≤ path.end }
-    requires within { path.end ≤ length text.now }
+    requires { names.old.text ≡ text.now }
     ensures told { IfOk result (λ fault. (tokens : Seq AnyLexeme)
         → fault ≡ first_of (import_findings (source_with text.now tokens) names.old.names (path ∷ []))) }
     ensures declared { OnOk result ((tokens : Seq AnyLexeme)

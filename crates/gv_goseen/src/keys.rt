@@ -12,6 +12,7 @@ ghost use Rattle.gv_goseen.specs.Keys.{field_by, wants_by};
 use crate::lookups::is_blank;
 use crate::seen::Seen;
 use gv_gonames::MemberRow;
+use gv_goscopes::Key;
 use gv_gosyntax::Lexeme;
 use gv_operands::{GoType, Want};
 
@@ -45,7 +46,7 @@ fn is_field_as(blank: bool, row: Option<Option<MemberRow>>) -> bool
 
 impl<'a> Seen<'a> {
     // Of the struct with a number, where there is one, the member with a name.
-    fn row(&self, number: u32, name: &[u8]) -> Option<Option<MemberRow>>
+    pub(crate) fn row(&self, number: u32, name: &[u8]) -> Option<Option<MemberRow>>
         ensures { result ≡ option_map (λ s. member_among s.fields s.methods name.now) (slice_get (env_of self.now).declared.structs number) }
     {
         match self.declared.structs.get(number as usize) {
@@ -69,5 +70,17 @@ impl<'a> Seen<'a> {
     {
         let bytes = self.bytes(name);
         is_field_as(is_blank(bytes), self.row(number, bytes))
+    }
+    /// A key in a literal of the struct with a number.
+    pub fn key(&self, number: u32, name: Lexeme) -> Key
+        ensures wants { let fields = calls.fields_of (env_of self.now).declared (Some (Struct number)) in
+            result.wants ≡ calls.field_want fields (scope.name_in (source_of self.now) name) }
+        ensures is_field { let fields = calls.fields_of (env_of self.now).declared (Some (Struct number)) in
+            result.is_field ≡ calls.is_field fields (scope.name_in (source_of self.now) name) }
+    {
+        Key {
+            wants: self.key_wants(number, name),
+            is_field: self.is_field(number, name),
+        }
     }
 }

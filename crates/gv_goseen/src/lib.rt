@@ -3,7 +3,9 @@
 //! What a name stands for is defined in gv_gotypes. Each look-up takes no more steps where there are more names.
 #![tactic(auto)]
 
+mod again;
 mod answers;
+mod called;
 mod declared;
 mod imports;
 mod keys;
@@ -14,7 +16,6 @@ mod numbers;
 mod paths;
 mod scopes;
 mod seen;
-mod tokens;
 
 pub use declared::{Declared, Procedure};
 pub use imports::declare_import;
@@ -23,4 +24,3 @@ pub use naming::{declare_field, declare_method, declare_name};
 pub use numbers::number_of;
 pub use paths::{element_of, element_span, element_start, imported, unquoted};
 pub use seen::Seen;
-pub use tokens::{next_of, token_before};

@@ -1,6 +1,6 @@
 //! What names stand for where a walk stands.
 
-ghost use Rattle.std.specs.Prelude.{◌≡◌, codes, option_map, slice_get};
+ghost use Rattle.std.specs.Prelude.{◌≡◌, codes};
 ghost use Rattle.std.specs.Str.{bytes_eq};
 ghost use Rattle.gv_gotypes.specs.Scopes as scope;
 ghost use Rattle.gv_gotypes.specs.Members as members;
@@ -9,9 +9,8 @@ ghost use Rattle.gv_operands.specs.Operators.{word_within};
 ghost use Rattle.gv_operands.specs.declared.types.Base.TheVariants.{Struct};
 ghost use Rattle.gv_gotyped.specs.Operands.{IsConstantFor};
 ghost use Rattle.gv_gotyped.specs.Parts.{IsMember};
-ghost use Rattle.gv_goseen.specs.Seen.{env_of, signature_of, source_of};
+ghost use Rattle.gv_goseen.specs.Seen.{env_of, source_of};
 
-use crate::declared::Procedure;
 use crate::members::member_as;
 use crate::numbers::number_of;
 use crate::seen::Seen;
@@ -70,13 +69,6 @@ impl<'a> Seen<'a> {
         ensures { result ≡ bytes_eq (scope.name_in (source_of self.now) first) (scope.name_in (source_of self.now) other) }
     {
         self.bytes(first) == self.bytes(other)
-    }
-
-    /// What a procedure takes and gives, by its number; none, where no procedure has it.
-    pub fn procedure(&self, number: u32) -> Option<&Procedure>
-        ensures { option_map (λ p. signature_of p.now) result ≡ slice_get (env_of self.now).declared.procedures number }
-    {
-        self.declared.procedures.get(number as usize)
     }
 
     /// What a constant is by its declaration, where a name stands for one.

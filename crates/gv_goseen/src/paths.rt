@@ -52,10 +52,20 @@ pub fn imported(quoted: &[u8]) -> Option<Library>
     library_named(element_of(quoted))
 }
 
+// Where a token ends within its text.
+fn end_within(text: &[u8], token: Lexeme) -> u32
+    ensures within { result ≤ length text.now }
+    ensures same { slice_range text.now token.start token.end ≡ slice_range text.now token.start result }
+{
+    if text.len() < token.end as usize {
+        text.len() as u32
+    } else {
+        token.end
+    }
+}
+
 /// Where the last element of the path in quotes of an import stands.
 pub fn element_span(text: &[u8], token: Lexeme) -> Span
-    requires ordered { token.start ≤ token.end }
-    requires within { token.end ≤ length text.now }
     ensures { slice_range text.now result.start result.end ≡ literals.element_of (slice_range text.now token.start token.end) }
 {
     let quoted = bytes_between(text, span_of(token));
@@ -65,9 +75,10 @@ pub fn element_span(text: &[u8], token: Lexeme) -> Span
             end: token.start,
         };
     }
+    let end = end_within(text, token);
     let start = element_start(unquoted(quoted)) as u32;
     Span {
         start: token.start + 1 + start,
-        end: token.end - 1,
+        end: end - 1,
     }
 }

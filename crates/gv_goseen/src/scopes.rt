@@ -3,7 +3,8 @@
 ghost use Rattle.std.specs.Prelude.{◌≡◌, ◌∷◌, [], true, OnOk, OnErr};
 ghost use Rattle.gv_gonames.specs.Trail.{is_around};
 ghost use Rattle.gv_gotypes.specs.Scopes as scope;
-ghost use Rattle.gv_goseen.specs.Seen.{env_of, outer_of, source_of, with_results};
+ghost use Rattle.gv_goscopes.specs.Scopes.{with_results};
+ghost use Rattle.gv_goseen.specs.Seen.{env_of, outer_of, source_of};
 
 use crate::lookups::is_blank;
 use crate::seen::Seen;
