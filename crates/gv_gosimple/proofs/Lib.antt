@@ -1,0 +1,5 @@
+pub mod Splits
+pub mod SideLemmas
+pub mod Results
+pub mod Declared
+pub mod AssignLemmas
