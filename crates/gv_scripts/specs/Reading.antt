@@ -10,6 +10,7 @@ use Rattle.gv_scriptsyntax.specs.Nodes.{IsTreeOf}
 use Rattle.gv_scriptparse.specs.Seen.{seen}
 use Rattle.gv_scriptparse.specs.Reading as grammar
 use Rattle.gv_scriptnames.specs.Outlines.{outline_of}
+use Rattle.gv_scriptnumbers.specs.Numbers.{places_of}
 use Rattle.gv_scriptnames.specs.Laws.{IsTyped, IsRefusedAt}
 use Rattle.gv_scripts.specs.declared.script.Script.{Script}
 
@@ -24,10 +25,11 @@ pub record Spells (text : List ℕ) (spec : Spec) (program : Program) (tree : Tr
   pub has : HasTree text tree
   pub typed : IsTyped text spec program tree
 
--- a script is the nodes of a tree, with its outline
+-- a script is the nodes of a tree, with its outline and the places of its numbered commands
 pub record IsOf (text : List ℕ) (tree : Tree) (s : Script) : Type 0 where
   pub nodes : IsTreeOf text s.nodes.items tree
   pub outline : s.outline ≡ outline_of tree
+  pub places : s.places.items ≡ places_of text tree
 
 -- A script is valid: it is that of a tree that the text spells.
 pub record IsValid (text : List ℕ) (spec : Spec) (program : Program) (s : Script) : Type 0 where

@@ -21,6 +21,7 @@ use gv_lex::lex;
 use gv_scriptfaults::first_fault;
 use gv_scriptnodes::outline_of;
 use gv_scriptparse::parse_script;
+use gv_scriptplaces::places_of;
 use gv_scriptsyntax::Node;
 use gv_text::refusal_at;
 use gv_typing::TermFault;
@@ -34,7 +35,8 @@ fn script_of(
     program: &Program,
     nodes: Vec<Node>,
 ) -> Result<Script, TermFault>
-    requires { IsSomeScript text.now nodes.items }
+    requires short { length text.now < 2 ^ 32 - 1 }
+    requires tree { IsSomeScript text.now nodes.items }
     ensures read { IfOk result (λ s. (tree : Tree) → IsTreeOf text.now nodes.items tree → IsOf text.now tree s) }
     ensures typed { IfOk result (λ s. (tree : Tree) → IsTreeOf text.now nodes.items tree → IsTyped text.now spec.now program.now tree) }
     ensures cause { IfErr result (λ e. (tree : Tree) → IsTreeOf text.now nodes.items tree
@@ -45,7 +47,12 @@ fn script_of(
     if let Some(fault) = first {
         return Err(TermFault::from(fault));
     }
-    Ok(Script { nodes, outline })
+    let places = places_of(alloc, text, &nodes)?;
+    Ok(Script {
+        nodes,
+        outline,
+        places,
+    })
 }
 
 // The script that a text spells, or its refusal.
@@ -68,8 +75,9 @@ fn read_or_refused(
     }
 }
 
-/// The script that a text of fewer than 2^32 - 1 bytes spells, typed for a specification and a program, or the text's refusal. It
-/// takes time and room linear in the text, the specification and the program.
+/// The script that a text of fewer than 2^32 - 1 bytes spells, typed for a specification and a program, with the places of its
+/// commands, or the text's refusal. It takes room linear in the text, the specification and the program, and time that grows besides
+/// with the logarithm of the text's lines.
 ///
 /// A refusal is that of the first stage that refuses: the characters, as `lex` tells; the grammar, as `parse_script` tells; then, at
 /// the first place, by the lower number at one place:
