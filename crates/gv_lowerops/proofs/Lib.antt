@@ -1,0 +1,4 @@
+pub mod Behind
+pub mod Steady
+pub mod Wholes
+pub mod Along
