@@ -1,4 +1,4 @@
--- A crash: of all that was owned the durable part of the crash invariant is left, and recovery begins with it and with all leases.
+-- A crash: of all that was owned the durable part of the crash invariant is left, and recovery begins with it and with all leases. So it does before the first event, with the crash invariant of an empty system.
 use Rattle.std.proofs.Common.{◌≡◌, ◌≢◌, ◌⊎◌, ℕ, zero, suc, ◌+◌, ◌<◌, ◌≤◌, Bool, true, false, not, ◌&&◌, ◌||◌, if◌then◌else◌, List, [], ◌∷◌, ◌++◌, map, length, Option, Some, None, refl, sym, ap, subst, ◌∙◌, inl, inr, arith}
 use Rattle.std.specs.Prelude.{slice_get, option_map, Ok}
 use Rattle.std.specs.Option.{unwrap_or}
@@ -19,7 +19,8 @@ use Rattle.gv_spec.specs.Move as move
 use Rattle.gv_spec.specs.Move.{Move, Act, entries_of}
 use Rattle.gv_spec.specs.Specification.{Specification}
 use Rattle.gv_spec.specs.Walks.{onward, first_walk}
-use Rattle.gv_spec.specs.Runs.{Role, Recovers, living, crash_made, unless_undefined}
+use Rattle.gv_base.specs.declared.reason.Reason.{Reason}
+use Rattle.gv_spec.specs.Runs.{Role, Recovers, living, crash_made, first_state, unless_undefined}
 use Rattle.gv_runs.specs.Machine.{machine_of}
 use Rattle.gv_resources.specs.Kinds as kind
 use Rattle.gv_resources.specs.Kinds.{Kind, is_durable, is_persistent, most}
@@ -41,19 +42,19 @@ use Rattle.gv_acting.proofs.Walking.{walk_then}
 use Rattle.gv_invariant.specs.Outlines.{Outline}
 use Rattle.gv_invariant.specs.Stacks.{first, at_rest, IsReady}
 use Rattle.gv_invariant.specs.Invariant.{Run, Threads, badge, badge_of, of_threads, Tells, Invariant}
-use Rattle.gv_invariant.specs.Justified.{is_lease, IsJustified}
-use Rattle.gv_invariant.specs.Laws.{Keeps, goes_on, CrashLaw}
+use Rattle.gv_invariant.specs.Justified.{is_lease, IsJustified, first_world}
+use Rattle.gv_invariant.specs.Laws.{Keeps, goes_on, CrashLaw, FirstLaw}
 use Rattle.gv_invariant.proofs.Frames.{thread}
 use Rattle.gv_invariant.proofs.Threads.{added_there, added_elsewhere, added_length, none_lives}
 use Rattle.gv_invariant.proofs.Sums.{share, threads_added}
 use Rattle.gv_invariant.proofs.Unmarking.{unmarked}
 use Rattle.gv_invariant.proofs.Finding.{Crashable, found_at_crash}
 
--- the record beside the state after a crash
-abbrev pub crashed_from : Ghost → Ghost
-crashed_from g = record g {
-  history = g.history ++ entry.Crash ∷ [];
-  moves = g.moves ++ move.Other entry.Crash ∷ [];
+-- the record beside the state when recovery begins, with this history and this explanation of it
+abbrev pub begun_from : Ghost → List (Entry Value) → List (Move Value) → Ghost
+begun_from g history moves = record g {
+  history = history;
+  moves = moves;
   halves = λ name. None;
   frozen = λ object place. false;
   sliced = λ object. false;
@@ -62,6 +63,10 @@ crashed_from g = record g {
   booted = false;
   since = g.calls;
 }
+
+-- the same after a crash
+abbrev pub crashed_from : Ghost → Ghost
+crashed_from g = begun_from g (g.history ++ entry.Crash ∷ []) (g.moves ++ move.Other entry.Crash ∷ [])
 
 entries_then : (moves : List (Move Value)) → entries_of (moves ++ move.Other entry.Crash ∷ []) ≡ entries_of moves ++ entry.Crash ∷ []
 entries_then [] = refl
@@ -80,27 +85,28 @@ walked_crash atomic g w = record {
   gone = w.gone;
 }
 
-consistent_crash : (o : Proof) (w : World) (g : Ghost) → IsConsistent o (unmarked w) g → IsConsistent o (crashed w) (crashed_from g)
-consistent_crash o w g c = record {
+consistent_begun : (o : Proof) (w : World) (g : Ghost) (history : List (Entry Value)) (moves : List (Move Value)) → IsConsistent o (unmarked w) g → Walked o.atomic (begun_from g history moves)
+    → IsConsistent o (crashed w) (begun_from g history moves)
+consistent_begun o w g history moves c walked = record {
   fresh = λ object l. record { guards = refl; sliced = refl; frozen = λ place. refl };
   blocks = record { as_many = c.blocks.as_many; sized = c.blocks.sized; same = c.blocks.same; long = c.blocks.long; whole = c.blocks.whole };
   failures = record { one = c.failures.one; of_two = c.failures.of_two };
   fields = c.fields;
   names = λ name l. refl;
   unguarded = λ never object. refl;
-  walked = walked_crash o.atomic g c.walked;
+  walked = walked;
 }
 
 -- ---- what is left fits
 
-durable_told : (o : Proof) (w : World) (g : Ghost) (k : Kind) (key v : List Value) → is_durable k ≡ true → told (shape_of o) (unmarked w) g k key ≡ Some v
-    → told (shape_of o) (crashed w) (crashed_from g) k key ≡ Some v
-durable_told o w g kind.Master key v d e = e
-durable_told o w g kind.Down key v d e = e
-durable_told o w g kind.Field key v d e = e
-durable_told o w g kind.BookMaster key v d e = e
-durable_told o w g kind.Token key v d e = e
-durable_told o w g _ key v d e = absurd cc
+durable_told : (o : Proof) (w : World) (g : Ghost) (history : List (Entry Value)) (moves : List (Move Value)) (k : Kind) (key v : List Value) → is_durable k ≡ true
+    → told (shape_of o) (unmarked w) g k key ≡ Some v → told (shape_of o) (crashed w) (begun_from g history moves) k key ≡ Some v
+durable_told o w g history moves kind.Master key v d e = e
+durable_told o w g history moves kind.Down key v d e = e
+durable_told o w g history moves kind.Field key v d e = e
+durable_told o w g history moves kind.BookMaster key v d e = e
+durable_told o w g history moves kind.Token key v d e = e
+durable_told o w g history moves _ key v d e = absurd cc
 
 kept_or_none : (b : Bool) (n : ℕ) → ((b ≡ true) × ((if b then n else 0) ≡ n)) ⊎ ((if b then n else 0) ≡ 0)
 kept_or_none true n = inl (refl, refl)
@@ -133,35 +139,37 @@ once_more false b c h = (let z : once (false && c) ≡ 0 = refl in omega arith)
 no_once : (c : Bool) → once (false && c) ≡ 0
 no_once c = refl
 
-module _ (o : Outline) (s : Run) (c : Crashable o s (unmarked s.world)) where
+module _ (o : Outline) (earlier : World) (threads : Threads) (before : Ghost) (history : List (Entry Value)) (moves : List (Move Value)) (pool : Piece)
+    (fits : Fits pool (told (shape_of o.proof) (unmarked earlier) before)) (stands : IsInstance o.proof.preds o.proof.crash [] pool)
+    (consistent : IsConsistent o.proof (crashed earlier) (begun_from before history moves)) where
   abbrev w : World
-  w = crashed s.world
+  w = crashed earlier
 
   abbrev g : Ghost
-  g = crashed_from c.g
+  g = begun_from before history moves
 
   abbrev tells : Telling
   tells = told (shape_of o.proof) w g
 
   abbrev left : Piece
-  left = part_of is_durable c.pool
+  left = part_of is_durable pool
 
   abbrev leases : Piece
   leases = all_told leased tells
 
-  left_within : (k : Kind) (key v : List Value) → 0 < left (Have k key v) → (is_durable k ≡ true) × (0 < c.pool (Have k key v))
-  left_within k key v l = elim (kept_or_none (is_durable k) (c.pool (Have k key v))) [
+  left_within : (k : Kind) (key v : List Value) → 0 < left (Have k key v) → (is_durable k ≡ true) × (0 < pool (Have k key v))
+  left_within k key v l = elim (kept_or_none (is_durable k) (pool (Have k key v))) [
     | inl (d, same) ↦ (d, omega (arith, l, same))
     | inr none ↦ absurd (omega (arith, l, none))
   ]
 
-  left_least : (k : Kind) (key v : List Value) → left (Have k key v) ≤ c.pool (Have k key v)
-  left_least k key v = elim (kept_or_none (is_durable k) (c.pool (Have k key v))) [ inl (d, same) ↦ omega arith | inr none ↦ omega arith ]
+  left_least : (k : Kind) (key v : List Value) → left (Have k key v) ≤ pool (Have k key v)
+  left_least k key v = elim (kept_or_none (is_durable k) (pool (Have k key v))) [ inl (d, same) ↦ omega arith | inr none ↦ omega arith ]
 
   left_fits : Fits left tells
   left_fits = record {
-    says = λ k key v l. (let d = left_within k key v l in durable_told o.proof s.world c.g k key v d.0 (c.fits.says k key v d.1));
-    few = λ k key v n e. (let a = left_least k key v in let b = c.fits.few k key v n e in omega arith);
+    says = λ k key v l. (let d = left_within k key v l in durable_told o.proof earlier before history moves k key v d.0 (fits.says k key v d.1));
+    few = λ k key v n e. (let a = left_least k key v in let b = fits.few k key v n e in omega arith);
   }
 
   -- the badge is among what is made anew
@@ -186,7 +194,7 @@ module _ (o : Outline) (s : Run) (c : Crashable o s (unmarked s.world)) where
       differ false a b = cc
 
   abbrev gone : Threads
-  gone = map {B = Option (Role × Thread)} (λ thread. None) s.threads
+  gone = map {B = Option (Role × Thread)} (λ thread. None) threads
 
   -- ---- the invariant
 
@@ -198,7 +206,7 @@ module _ (o : Outline) (s : Run) (c : Crashable o s (unmarked s.world)) where
       of (Some y) never = absurd (never y refl)
 
       none : (n : ℕ) → 0 + badge (living gone (suc n)) e ≡ 0
-      none n = let z = of (living gone (suc n)) (none_lives s.threads n) in omega arith
+      none n = let z = of (living gone (suc n)) (none_lives threads n) in omega arith
 
   abbrev owns : ℕ → Piece
   owns = with_piece (λ n e. 0) (length gone) (λ e. left e + leases e)
@@ -212,18 +220,18 @@ module _ (o : Outline) (s : Run) (c : Crashable o s (unmarked s.world)) where
 
   crash_stands : IsDurable o.proof.preds (Instance o.proof.crash []) → IsInstance o.proof.preds o.proof.crash [] left
   crash_stands durable env args none =
-      at_values o.proof.preds env env o.proof.crash [] args left none (part_for durable (c.stands env [] refl))
+      at_values o.proof.preds env env o.proof.crash [] args left none (part_for durable (stands env [] refl))
 
-  module _ (j : IsJustified o) (none_before : s.fault ≡ None) where
+  module _ (j : IsJustified o) (calls : ℕ) (fault : Option Reason) (same_calls : before.calls ≡ calls) (none_before : fault ≡ None) where
     only : (n : ℕ) (x : Role × Thread) → living (gone ++ Some (Recovers, recovery o.program) ∷ []) (suc n) ≡ Some x → n ≡ length gone
     only n x lives = elim (number_test n (length gone)) [
       | inl (e, t) ↦ e
-      | inr (ne, t) ↦ absurd (none_lives s.threads n x (sym (added_elsewhere gone (Some (Recovers, recovery o.program)) n ne) ∙ lives))
+      | inr (ne, t) ↦ absurd (none_lives threads n x (sym (added_elsewhere gone (Some (Recovers, recovery o.program)) n ne) ∙ lives))
     ]
 
     ready_now : (p : Piece) → ((e : Resource) → left e + leases e ≤ p e) → IsReady o w Owned Recovers p (recovery o.program)
     ready_now p le =
-        let (values, d) = j.begins w g left leases p (consistent_crash o.proof s.world c.g c.consistent) le (crash_stands j.durable) (λ k key v lease is. all_told_has leased tells k key v lease is) in
+        let (values, d) = j.begins w g left leases p (consistent) le (crash_stands j.durable) (λ k key v lease is. all_told_has leased tells k key v lease is) in
         subst (λ (th : Thread). IsReady o w Owned Recovers p th) (sym (recovery_is o.program)) (at_rest false o.recovers (record {
           start = values;
           env = values;
@@ -236,8 +244,12 @@ module _ (o : Outline) (s : Run) (c : Crashable o s (unmarked s.world)) where
           rest = first (j.recovery.0, λ owned. j.recovery.3);
         }) j.recovers)
 
-    pub crashed_inv : Invariant o (crash_made (machine_of o.program o.setting) s)
-    crashed_inv = record {
+    -- the state when recovery begins, and no other thread lives
+    abbrev pub begun : Run
+    begun = record { world = w; receiver = None; threads = gone ++ Some (Recovers, recovery o.program) ∷ []; calls = calls; history = history; fault = fault }
+
+    pub begins : Invariant o begun
+    begins = record {
       ghost = g;
       pool = λ e. 0;
       locks = λ n e. 0;
@@ -248,7 +260,7 @@ module _ (o : Outline) (s : Run) (c : Crashable o s (unmarked s.world)) where
         mode = refl;
         crash = λ shared. absurd (not_shared shared);
         free = λ object guard guarded. absurd (nothing guarded);
-        consistent = consistent_crash o.proof s.world c.g c.consistent;
+        consistent = consistent;
       };
       ready = λ n x lives.
           let here = only n x lives in
@@ -265,8 +277,8 @@ module _ (o : Outline) (s : Run) (c : Crashable o s (unmarked s.world)) where
         none = λ n e ne. piece_elsewhere (λ n e. 0) (length gone) n (λ e. left e + leases e) e ne;
       };
       tells = record {
-        history = ap (λ (es : List (Entry Value)). es ++ entry.Crash ∷ []) c.tells.history;
-        calls = c.tells.calls;
+        history = refl;
+        calls = same_calls;
         booted = refl;
         since = λ e. refl;
         gone = λ e ne. absurd (ne refl);
@@ -299,4 +311,30 @@ module _ (o : Outline) (s : Run) (c : Crashable o s (unmarked s.world)) where
         no_mark (MapAt (suc n)) m = cc
 
 pub crash_law : CrashLaw
-crash_law o s j i = subst (λ f. Keeps o (unless_undefined f (Next (crash_made (machine_of o.program o.setting) s)))) (sym i.fault) (goes_on (crashed_inv o s (found_at_crash o s i j) j i.fault))
+crash_law o s j i = subst (λ f. Keeps o (unless_undefined f (Next (crash_made (machine_of o.program o.setting) s)))) (sym i.fault) (goes_on crashed_inv)
+  where
+    c : Crashable o s (unmarked s.world)
+    c = found_at_crash o s i j
+
+    crashed_inv : Invariant o (crash_made (machine_of o.program o.setting) s)
+    crashed_inv =
+        subst (λ (es : List (Entry Value)). Invariant o (record (crash_made (machine_of o.program o.setting) s) { history = es ++ entry.Crash ∷ [] })) c.tells.history
+        (begins o s.world s.threads c.g (c.g.history ++ entry.Crash ∷ []) (c.g.moves ++ move.Other entry.Crash ∷ []) c.pool c.fits c.stands
+        (consistent_begun o.proof s.world c.g (c.g.history ++ entry.Crash ∷ []) (c.g.moves ++ move.Other entry.Crash ∷ []) c.consistent (walked_crash o.proof.atomic c.g c.consistent.walked))
+        j s.calls s.fault c.tells.calls i.fault)
+
+-- before the first event
+pub first_law : FirstLaw
+first_law o j b = subst (λ (es : List (Entry Value)). Invariant o (record (first_state (machine_of o.program o.setting)) { history = es })) b.history
+    (begins o (first_world o) [] b.ghost b.ghost.history b.ghost.moves b.pool b.fits b.stands (consistent_begun o.proof (first_world o) b.ghost b.ghost.history b.ghost.moves b.consistent walked) j 0 None b.calls refl)
+  where
+    walked : Walked o.proof.atomic (begun_from b.ghost b.ghost.history b.ghost.moves)
+    walked = (let k = b.consistent.walked in record {
+      entries = k.entries;
+      passes = k.passes;
+      later = k.later;
+      unacted = k.unacted;
+      acted = k.acted;
+      since = omega arith;
+      gone = k.gone;
+    })

@@ -9,7 +9,7 @@ use Rattle.gv_terms.specs.declared.value.Value.{Value}
 use Rattle.gv_terms.specs.declared.value.Value.TheVariants as val
 use Rattle.gv_terms.specs.Ranges.{IsInRange}
 use Rattle.gv_terms.specs.Trees.{value_under}
-use Rattle.gv_world.specs.Store.{Store as World}
+use Rattle.gv_world.specs.Store.{Store as World, zero_store}
 use Rattle.gv_lang.specs.Calls.{recovery, reply}
 use Rattle.gv_lang.specs.Threads.{Frame, new_frame}
 use Rattle.gv_lang.specs.Tree.{Proc}
@@ -46,6 +46,22 @@ HasLeases o w g p = (k : Kind) (key v : List Value) → is_lease k ≡ true → 
 abbrev pub BeginsAnew : Outline → Type 0
 BeginsAnew o = (w : World) (g : Ghost) (q r p : Piece) → IsConsistent o.proof w g → AreParts q r p → IsInstance o.proof.preds o.proof.crash [] q → HasLeases o w g r
     → (values : Env) × Described o.proof.preds values values o.recovers (recovery o.program).top p
+
+-- ---- before the first event
+
+-- every disk of zeros, and no object
+abbrev pub first_world : Outline → World
+first_world o = zero_store o.setting.disks o.setting.blocks
+
+-- The crash invariant stands there, beside a record of an empty history: that is what a proof's first block gives.
+pub record BeginsFirst (o : Outline) : Type 0 where
+  pub ghost : Ghost
+  pub history : ghost.history ≡ []
+  pub calls : ghost.calls ≡ 0
+  pub consistent : IsConsistent o.proof (first_world o) ghost
+  pub pool : Piece
+  pub fits : Fits pool (told (shape_of o.proof) (first_world o) ghost)
+  pub stands : IsInstance o.proof.preds o.proof.crash [] pool
 
 -- ---- calls
 

@@ -5,11 +5,11 @@ use Rattle.gv_base.specs.declared.answer.Answer.TheVariants.{Next, Blocked}
 use Rattle.gv_terms.specs.declared.value.Value.{Value}
 use Rattle.gv_spec.specs.Event as event
 use Rattle.gv_spec.specs.Event.{Event}
-use Rattle.gv_spec.specs.Runs.{outcome_of}
+use Rattle.gv_spec.specs.Runs.{outcome_of, first_state}
 use Rattle.gv_spec.specs.WalkLaws.{HasExplanation}
 use Rattle.gv_runs.specs.Machine.{machine_of}
 use Rattle.gv_invariant.specs.Invariant.{Run, Invariant}
-use Rattle.gv_invariant.specs.Justified.{IsJustified}
+use Rattle.gv_invariant.specs.Justified.{IsJustified, BeginsFirst}
 use Rattle.gv_invariant.specs.Outlines.{Outline}
 
 -- an event that isn't possible, or that leads to a state with the invariant; it is not undefined
@@ -23,6 +23,10 @@ outcome o s e = outcome_of (machine_of o.program o.setting) o.proof.atomic.allow
 -- the history of a state with the invariant has an explanation
 abbrev pub ExplainedLaw : Type 0
 ExplainedLaw = (o : Outline) (s : Run) → Invariant o s → HasExplanation o.proof.atomic s.history
+
+-- before the first event: recovery is about to run, and nothing else
+abbrev pub FirstLaw : Type 0
+FirstLaw = (o : Outline) → IsJustified o → BeginsFirst o → Invariant o (first_state (machine_of o.program o.setting))
 
 -- a disk fails
 abbrev pub FailLaw : Type 0

@@ -1,10 +1,15 @@
 //! Laws of the definitions in this crate. Each function does nothing: its contract is the law.
 
-ghost use Rattle.gv_invariant.specs.Laws.{CrashLaw, ExplainedLaw, FailLaw, StepLaw};
+ghost use Rattle.gv_invariant.specs.Laws.{CrashLaw, ExplainedLaw, FailLaw, FirstLaw, StepLaw};
 
 /// The history of a state with the invariant has an explanation.
 pub fn histories_are_explained()
     ensures { ExplainedLaw }
+{}
+
+/// The first state has the invariant, where the crash invariant stands for it.
+pub fn runs_begin()
+    ensures { FirstLaw }
 {}
 
 /// A disk may fail, where it may: the invariant holds after it.
