@@ -226,7 +226,7 @@ module _ (o : Outline) (s : Run) (i : Invariant o s) (n : ℕ) (f : Frame) (is :
         handle = handle;
         base = record {
           fits = fits_less (λ r. handed (crash_part r) (behind r) (root_part r) (nothing r) (handle r) (q r) (others r) (a.seat.piece r) (a.seat.pool r) (of_locks w a.seat.locks r) (i.handle r) (lower r)
-          (of_others s.threads i.owns n r) (split r) (parts r) (root_parts r) (part_least is_persistent root_part r)) a.seat.base.fits;
+              (of_others s.threads i.owns n r) (split r) (parts r) (root_parts r) (part_least is_persistent root_part r)) a.seat.base.fits;
           mode = refl;
           crash = λ shared_now closed env args same. at_values o.proof.preds a.seat.env env o.proof.crash [] args crash_part same crash_stands;
           free = a.seat.base.free;

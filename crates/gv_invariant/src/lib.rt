@@ -3,4 +3,6 @@
 
 mod laws;
 
-pub use laws::{crashes_are_survived, disks_may_fail, histories_are_explained, runs_begin, steps_are_kept};
+pub use laws::{
+    crashes_are_survived, disks_may_fail, histories_are_explained, runs_begin, steps_are_kept,
+};
