@@ -13,5 +13,7 @@ mod sides;
 mod simple;
 mod targets;
 
+pub use places::places_at;
 pub use rights::{results_fault, right_fault};
+pub use sides::{Side, side_at};
 pub use simple::{declare_simple, simple_fault};

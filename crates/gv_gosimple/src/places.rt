@@ -13,7 +13,7 @@ use gv_gosyntax::Node;
 use std::alloc::Global;
 
 /// The places of the nodes of operands, in order of text, where the node of all of them is at a place.
-pub(crate) fn places_at(alloc: Global, nodes: &[Node], at: usize) -> Result<Vec<usize>, NoMemory>
+pub fn places_at(alloc: Global, nodes: &[Node], at: usize) -> Result<Vec<usize>, NoMemory>
     requires formed { tree.IsFormed nodes.now }
     requires some { IsSomeExprs nodes.now at }
     ensures { IfOk result (λ places. (es : Seq AnyExpr) → tree.IsPartAt nodes.now at (PExprs es) → AreExprs nodes.now places.items es) }

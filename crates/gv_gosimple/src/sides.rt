@@ -14,7 +14,7 @@ use gv_gosyntax::Node;
 /// How a left side stands: by itself; beside others, or where there is none; or left of `:=`, where one of its left sides is new or
 /// none is.
 #[derive(Clone, Copy, Debug)]
-pub(crate) enum Side {
+pub enum Side {
     Lone,
     Beside,
     Defined(bool),
@@ -53,7 +53,7 @@ pub(crate) fn some_is_old<N: Scopes>(names: &N, nodes: &[Node], places: &[usize]
 }
 
 /// How the left sides at these places stand.
-pub(crate) fn side_at<N: Scopes>(names: &N, nodes: &[Node], places: &[usize], defines: bool) -> Side
+pub fn side_at<N: Scopes>(names: &N, nodes: &[Node], places: &[usize], defines: bool) -> Side
     requires formed { tree.IsFormed nodes.now }
     requires some { AreSomeExprs nodes.now places.now }
     ensures { (es : Seq AnyExpr) → AreExprs nodes.now places.now es → result ≡ side_for (N.env names.now) defines (map expr_of es) }

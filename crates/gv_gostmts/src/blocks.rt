@@ -68,7 +68,8 @@ fn part_fault<N: Scopes>(
     }
 }
 
-fn declare_part<N: Scopes>(
+/// Declares the variables of a part of a header, where it is a definition. After `NoMemory` some may be declared and others not.
+pub fn declare_part<N: Scopes>(
     alloc: Global,
     names: &mut N,
     nodes: &[Node],
@@ -121,7 +122,9 @@ fn header_fault<N: Scopes>(
 
 // ---- what is declared
 
-fn declare_stmt<N: Scopes>(
+/// Declares what the statement whose node is at a place declares behind it. After `NoMemory` some variables may be declared and others
+/// not.
+pub fn declare_stmt<N: Scopes>(
     alloc: Global,
     names: &mut N,
     nodes: &[Node],
@@ -258,8 +261,8 @@ fn stmt_fault<N: Scopes>(
 
 // ---- scopes
 
-// Where the node of a block's statements stands.
-fn statements_in(node: BlockNode) -> usize
+/// Where the node of a block's statements stands.
+pub fn statements_in(node: BlockNode) -> usize
     ensures { result ≡ statements_by node }
 {
     match node {

@@ -10,4 +10,6 @@ mod lists;
 mod returns;
 mod vars;
 
-pub use blocks::block_fault;
+pub use blocks::{block_fault, declare_part, declare_stmt, statements_in};
+pub use lists::{rights_at, statements_at};
+pub use vars::name_fault;

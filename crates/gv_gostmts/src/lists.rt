@@ -15,7 +15,7 @@ use gv_gosyntax::Node;
 use std::alloc::Global;
 
 /// The places of the nodes of statements that aren't empty, in order of text, where the node of all of them is at a place.
-pub(crate) fn statements_at(
+pub fn statements_at(
     alloc: Global,
     nodes: &[Node],
     at: usize,
@@ -43,7 +43,7 @@ pub(crate) fn statements_at(
 }
 
 /// The places of the nodes of right sides, in order of text, where the node of all of them is at a place.
-pub(crate) fn rights_at(alloc: Global, nodes: &[Node], at: usize) -> Result<Vec<usize>, NoMemory>
+pub fn rights_at(alloc: Global, nodes: &[Node], at: usize) -> Result<Vec<usize>, NoMemory>
     requires formed { tree.IsFormed nodes.now }
     requires some { IsSomeRights nodes.now at }
     ensures { IfOk result (λ places. (rs : Seq AnyRight) → tree.IsPartAt nodes.now at (PRights rs) → AreRights nodes.now places.items rs) }
