@@ -9,7 +9,7 @@ use Rattle.gv_json.specs.Line.{hex_digit, in_quotes, quoted, as_text, between_co
 both : (a b : Bool) → a ≡ true → b ≡ true → (a && b) ≡ true
 both a b p q = rw p q
 
-joined : (xs ys : List ℕ) → is_one_line xs ≡ true → is_one_line ys ≡ true → is_one_line (xs ++ ys) ≡ true
+pub joined : (xs ys : List ℕ) → is_one_line xs ≡ true → is_one_line ys ≡ true → is_one_line (xs ++ ys) ≡ true
 joined xs ys p q = list_all-append (λ x. not (x == 10)) xs ys ∙ both (is_one_line xs) (is_one_line ys) p q
 
 either : (b : Bool) (xs ys : List ℕ) → is_one_line xs ≡ true → is_one_line ys ≡ true → is_one_line (if b then xs else ys) ≡ true
@@ -97,7 +97,7 @@ onto (suc k) n acc h =
     let more : is_one_line (d ∷ acc) ≡ true = both _ _ (digit (n % 10)) h in
     either (n / 10 == 0) (d ∷ acc) (digits_onto k 10 false (n / 10) (d ∷ acc)) more (onto k (n / 10) (d ∷ acc) more)
 
-number : (n : ℕ) → is_one_line (decimal n) ≡ true
+pub number : (n : ℕ) → is_one_line (decimal n) ≡ true
 unfolding digits
 number n = onto 64 n [] refl
 
