@@ -55,7 +55,7 @@ either_order (Some f) (Some g) = ap (λ (x : Fault). Some x)
 
 -- ---- of parts beside parts
 
-two_pairs : (x y a b : Option Fault) → earliest (earliest x y) (earliest a b) ≡ earliest (earliest x a) (earliest y b)
+pub two_pairs : (x y a b : Option Fault) → earliest (earliest x y) (earliest a b) ≡ earliest (earliest x a) (earliest y b)
 two_pairs x y a b =
     earliest_of_three x y (earliest a b)
     ∙ ap (λ (z : Option Fault). earliest x z) (sym (earliest_of_three y a b) ∙ ap (λ (z : Option Fault). earliest z b) (either_order y a) ∙ earliest_of_three a y b)
