@@ -1,0 +1,9 @@
+pub mod Opened
+pub mod MadeKinds
+pub mod TermActs
+pub mod TermsActs
+pub mod MaybeTermActs
+pub mod FactorActs
+pub mod FactorsActs
+pub mod CertActs
+pub mod HavesActs
