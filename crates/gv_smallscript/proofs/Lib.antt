@@ -1,0 +1,4 @@
+pub mod Once
+pub mod Texts
+pub mod Blocks
+pub mod Answers

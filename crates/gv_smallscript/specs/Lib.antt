@@ -1,0 +1,2 @@
+pub mod SmallScript
+pub mod Laws
