@@ -1,0 +1,4 @@
+pub mod Members
+pub mod Alike
+pub mod Nothing
+mod Steps
