@@ -1,2 +1,4 @@
+pub mod CallUses
+pub mod ListUses
 pub mod Outcomes
 pub mod UseLemmas

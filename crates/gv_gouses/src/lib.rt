@@ -4,8 +4,11 @@
 //! What is found of them is defined in gv_gotypes. A walk adds it to a list, in order of text.
 #![tactic(auto)]
 
+mod calls;
+mod lists;
 mod noted;
 mod operands;
 
+pub use calls::{note_call, note_right};
 pub use noted::Use;
 pub use operands::{note_found, note_name, note_operand};
