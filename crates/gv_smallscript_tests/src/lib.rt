@@ -1,0 +1,5 @@
+//! Happy calls of `gv_smallscript`.
+#![tactic(auto)]
+
+#[cfg(test)]
+mod tests;
