@@ -29,6 +29,13 @@ def renamed(act):
     return replace(act, takes=takes, antt=re.sub(r"(?<![\w.])at(?!\w)", "place", act.antt) if takes != act.takes else act.antt)
 
 
+def named(text):
+    """A file without the imports of constructors under a name that nothing in it has."""
+    lines = text.split("\n")
+    body = "\n".join(line for line in lines if not line.startswith("use "))
+    return "\n".join(line for line in lines if not re.match(r"use .* as (\w+)$", line) or re.search(rf"(?<![\w.]){line.split(' as ')[1]}\.", body))
+
+
 class ScriptViews(Views):
     """The generated files of some kinds."""
 
@@ -57,7 +64,13 @@ class ScriptViews(Views):
             for act in self.acts(kind):
                 out[f"proofs/generated/{stem}/{act.name.lower()}_made/Answers.antt"] = self.answers(kind, act)
             out[f"proofs/generated/{stem}/{stem}/Answers.antt"] = self.top_answers(kind)
-        return {name: used(text) if name.endswith(".antt") else text for name, text in out.items()}
+            if self.is_long(kind):
+                for word in ("earlier", "later"):
+                    goal = f"{word}_{stem}"
+                    text = f"use Rattle.std.proofs.Common.{{arith}}\nuse Rattle.{self.crate}.proofs.generated.{stem}.{goal}.Goals as goal\n\n"
+                    text += "pub unreachable-requires : goal.unreachable-requires\nunreachable-requires c = let e = c.requires.among in grind (arith, e)\n"
+                    out[f"proofs/generated/{stem}/{goal}/Answers.antt"] = text
+        return {name: named(used(text)) if name.endswith(".antt") else text for name, text in out.items()}
 
     def numbers(self, kind):
         """The numbers of the acts of a kind."""
@@ -114,11 +127,12 @@ class ScriptViews(Views):
 
     def source(self, kind):
         acts = self.acts(kind)
-        words = ["◌≡◌"] + [word for word in ("List", "Option") if word in self.any_type(kind).split()]
+        words = ["◌≡◌"] + [word for word in ("List", "Option") if word in self.any_type(kind).split()] + (["[]", "◌∷◌", "true"] if self.is_long(kind) else [])
         out = f"//! {kind} nodes. {self.note()}\n#![tactic(auto, unfolding(gv_scriptsyntax::specs::Nodes::arity))]\n\n"
         out += f"ghost use Rattle.std.specs.Prelude.{{{', '.join(words)}}};\n"
         out += self.variants([kind], True)
         out += self.type_imports([kind], "ghost ", True)
+        out += "ghost use Rattle.gv_grammar.specs.Derivation.{is_among};\n" if self.is_long(kind) else ""
         out += "ghost use Rattle.gv_scriptsyntax.specs.Nodes as tree;\n"
         out += f"ghost use Rattle.{BASE}.specs.Places.{{IsMadeBy}};\nghost use Rattle.{self.crate}.specs.{kind}.{{Is{kind}Node, IsSome{kind}}};\n\n"
         places = [act for act in acts if inner(act)]
@@ -147,7 +161,25 @@ class ScriptViews(Views):
             out += f"    let {name} = {call}(text, nodes, at, {constant}, {behind});\n"
         return out + f"    {kind}Node::{camel(act.name)}{' { ' + fields + ' }' if fields else ''}\n}}\n"
 
+    def long_top(self, kind):
+        """Of a kind with many acts: the earlier ones and the later ones, each by a function of its own."""
+        acts, numbers, stem = self.acts(kind), self.numbers(kind), snake(kind)
+        half = len(acts) // 2
+        whole = f"(whole : {self.any_type(kind)}) → tree.IsPartAt text.now nodes.now at ({self.part(kind, 'whole')}) → Is{kind}Node text.now nodes.now at result whole"
+        out = ""
+        for word, some, here in (("earlier", acts[:half], numbers[:half]), ("later", acts[half:], numbers[half:])):
+            out += f"\nfn {word}_{stem}_node(text: &[u8], nodes: &[Node], at: usize, act: u8) -> {kind}Node\n"
+            out += "    requires formed { tree.IsFormed text.now nodes.now }\n    requires made { IsMadeBy nodes.now at act }\n"
+            out += f"    requires among {{ is_among act ({' ∷ '.join(map(str, here))} ∷ []) ≡ true }}\n    ensures {{ {whole} }}\n{{\n    match act {{\n"
+            out += "".join(f"        ACT_{act.name} => {act.name.lower()}_made(text, nodes, at),\n" for act in some) + "        _ => unreachable!(),\n    }\n}\n"
+        out += f"\n/// The node at a place where a part of the kind {kind} stands.\npub fn {stem}_node(text: &[u8], nodes: &[Node], at: usize) -> {kind}Node\n"
+        out += f"    requires formed {{ tree.IsFormed text.now nodes.now }}\n    requires some {{ IsSome{kind} text.now nodes.now at }}\n    ensures {{ {whole} }}\n{{\n"
+        out += f"    let act = act_of(nodes, at);\n    if act < ACT_{acts[half].name} {{\n        earlier_{stem}_node(text, nodes, at, act)\n    }} else {{\n        later_{stem}_node(text, nodes, at, act)\n    }}\n}}\n"
+        return out
+
     def top(self, kind):
+        if self.is_long(kind):
+            return self.long_top(kind)
         out = f"\n/// The node at a place where a part of the kind {kind} stands.\npub fn {snake(kind)}_node(text: &[u8], nodes: &[Node], at: usize) -> {kind}Node\n"
         out += f"    requires formed {{ tree.IsFormed text.now nodes.now }}\n    requires some {{ IsSome{kind} text.now nodes.now at }}\n"
         out += f"    ensures {{ (whole : {self.any_type(kind)}) → tree.IsPartAt text.now nodes.now at ({self.part(kind, 'whole')}) → Is{kind}Node text.now nodes.now at result whole }}\n{{\n"
@@ -305,22 +337,37 @@ class ScriptViews(Views):
     def top_answers(self, kind):
         stem = snake(kind) + "_node"
         part = self.part(kind, "c.requires.some.whole")
+        long = self.is_long(kind)
         out = "use Rattle.std.proofs.Common.{refl, arith, [], ◌∷◌, inl, inr}\n" + self.variants([kind], False)
-        out += f"use Rattle.{self.crate}.proofs.Halves.{{either}}\n" if self.is_long(kind) else ""
+        out += f"use Rattle.{self.crate}.proofs.Halves.{{either, bounded}}\n" if long else ""
         out += "" if self.is_base(kind) else f"use Rattle.gv_scriptsyntax.specs.ScriptActs.{{{test_of(kind)}}}\n"
         out += f"use Rattle.{BASE}.proofs.Opened.{{some_made}}\nuse Rattle.{BASE}.proofs.MadeKinds.{{{'term_there' if self.is_base(kind) else 'made_there'}}}\nuse Rattle.{self.crate}.proofs.generated.{stem}.{stem}.Goals as goal\n"
-        out += f"\npub act_of-requires : goal.act_of-requires\nact_of-requires c = some_made c.args.text.now c.args.nodes.now c.args.at ({part}) c.requires.some.within c.requires.some.part refl\n"
+        call = "act_of-act" if long else "act_of"
+        out += f"\npub {call}-requires : goal.{call}-requires\n{call}-requires c = some_made c.args.text.now c.args.nodes.now c.args.at ({part}) c.requires.some.within c.requires.some.part refl\n"
+        if long:
+            return out + self.long_answers(kind, part)
         out += "\npub unreachable-requires : goal.unreachable-requires\nunreachable-requires c =\n"
         if self.is_base(kind):
             out += "    let e = term_there c.args.text.now c.args.nodes.now c.args.at c.act_of.result c.requires.some.whole c.act_of.ensures.made c.requires.some.part in\n"
             return out + "    let l = c.act_of.ensures.behind_marks in\n    grind (arith, e, l)\n"
         out += f"    let among = made_there {test_of(kind)} c.args.text.now c.args.nodes.now c.args.at c.act_of.result ({part}) c.act_of.ensures.made c.requires.some.part refl refl in\n"
-        if not self.is_long(kind):
-            return out + "    let e = among.one_of in\n    grind (arith, e)\n"
-        numbers = self.numbers(kind)
+        return out + "    let e = among.one_of in\n    grind (arith, e)\n"
+
+    def long_answers(self, kind, part):
+        numbers, out = self.numbers(kind), ""
         half = len(numbers) // 2
-        lists = [" ∷ ".join(map(str, some + ["[]"])) for some in (numbers[:half], numbers[half:])]
-        return out + f"    elim (either c.act_of.result ({lists[0]}) ({lists[1]}) among.one_of) [ inl a ↦ grind (arith, a) | inr b ↦ grind (arith, b) ]\n"
+        some = numbers[:half], numbers[half:]
+        lists = [f"({' ∷ '.join(map(str, here))} ∷ [])" for here in some]
+        inside = ["(" + "".join(f"(omega arith, (omega arith, " for _ in here) + "tt" + "))" * len(here) + ")" for here in some]
+        for word, at in (("earlier", 1), ("later", 0)):
+            name = f"{word}_{snake(kind)}_node-requires-clause-among"
+            bounds = f"bounded c.act_of-act.result {some[at][0]} {some[at][-1] + 1} {lists[at]} {inside[at]}"
+            never = "let l = k.0 in let m = k.1 in let never : ⊥ = grind (arith, l, m) in absurd never"
+            ends = f"inl a ↦ a | inr b ↦ let k = {bounds} b in {never}" if at else f"inl a ↦ let k = {bounds} a in {never} | inr b ↦ b"
+            out += f"\npub {name} : goal.{name}\n{name} c =\n"
+            out += f"    let among = made_there {test_of(kind)} c.args.text.now c.args.nodes.now c.args.at c.act_of-act.result ({part}) c.act_of-act.ensures.made c.requires.some.part refl refl in\n"
+            out += f"    elim (either c.act_of-act.result {lists[0]} {lists[1]} among.one_of) [ {ends} ]\n"
+        return out
 
 
 def main(words):

@@ -1,0 +1,12 @@
+pub mod ParsActs
+pub mod MaybeInstActs
+pub mod ItemActs
+pub mod ItemsActs
+pub mod CaseActs
+pub mod CasesActs
+pub mod BooksActs
+pub mod PredsActs
+pub mod CutsActs
+pub mod OpsActs
+pub mod ProcsActs
+pub mod ScriptActs

@@ -1,0 +1,12 @@
+pub mod Pars
+pub mod MaybeInst
+pub mod Item
+pub mod Items
+pub mod Case
+pub mod Cases
+pub mod Books
+pub mod Preds
+pub mod Cuts
+pub mod Ops
+pub mod Procs
+pub mod Script
