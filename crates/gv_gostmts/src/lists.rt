@@ -15,11 +15,7 @@ use gv_gosyntax::Node;
 use std::alloc::Global;
 
 /// The places of the nodes of statements that aren't empty, in order of text, where the node of all of them is at a place.
-pub fn statements_at(
-    alloc: Global,
-    nodes: &[Node],
-    at: usize,
-) -> Result<Vec<usize>, NoMemory>
+pub fn statements_at(alloc: Global, nodes: &[Node], at: usize) -> Result<Vec<usize>, NoMemory>
     requires formed { tree.IsFormed nodes.now }
     requires some { IsSomeStmts nodes.now at }
     ensures { IfOk result (λ places. (ss : Seq AnyStmt) → tree.IsPartAt nodes.now at (PStmts ss) → AreWithin nodes.now at places.items ss) }
