@@ -358,7 +358,7 @@ class ScriptViews(Views):
         half = len(numbers) // 2
         some = numbers[:half], numbers[half:]
         lists = [f"({' ∷ '.join(map(str, here))} ∷ [])" for here in some]
-        inside = ["(" + "".join(f"(omega arith, (omega arith, " for _ in here) + "tt" + "))" * len(here) + ")" for here in some]
+        inside = ["(omega arith, omega arith, " * len(here) + "tt" + ")" * len(here) for here in some]
         for word, at in (("earlier", 1), ("later", 0)):
             name = f"{word}_{snake(kind)}_node-requires-clause-among"
             bounds = f"bounded c.act_of-act.result {some[at][0]} {some[at][-1] + 1} {lists[at]} {inside[at]}"

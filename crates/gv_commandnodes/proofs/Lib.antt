@@ -1,0 +1,14 @@
+pub mod Halves
+pub mod NamesActs
+pub mod InstActs
+pub mod AtomActs
+pub mod AtomsActs
+pub mod FillingActs
+pub mod CommandActs
+pub mod CommandsActs
+pub mod EndingActs
+pub mod BlockActs
+pub mod MaybeBlockActs
+pub mod BlocksActs
+pub mod ArmActs
+pub mod ArmsActs

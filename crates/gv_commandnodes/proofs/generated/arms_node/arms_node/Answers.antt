@@ -1,0 +1,16 @@
+use Rattle.std.proofs.Common.{refl, arith}
+use Rattle.gv_termread.specs.declared.generated.term_acts.Part.TheVariants.{Other as POther}
+use Rattle.gv_scriptsyntax.specs.declared.generated.script_acts.ScriptPart.TheVariants.{Arms as PArms}
+use Rattle.gv_scriptsyntax.specs.ScriptActs.{is_arms}
+use Rattle.gv_certnodes.proofs.Opened.{some_made}
+use Rattle.gv_certnodes.proofs.MadeKinds.{made_there}
+use Rattle.gv_commandnodes.proofs.generated.arms_node.arms_node.Goals as goal
+
+pub act_of-requires : goal.act_of-requires
+act_of-requires c = some_made c.args.text.now c.args.nodes.now c.args.at (POther (PArms c.requires.some.whole)) c.requires.some.within c.requires.some.part refl
+
+pub unreachable-requires : goal.unreachable-requires
+unreachable-requires c =
+    let among = made_there is_arms c.args.text.now c.args.nodes.now c.args.at c.act_of.result (POther (PArms c.requires.some.whole)) c.act_of.ensures.made c.requires.some.part refl refl in
+    let e = among.one_of in
+    grind (arith, e)

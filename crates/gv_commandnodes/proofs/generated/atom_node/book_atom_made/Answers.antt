@@ -1,0 +1,5 @@
+use Rattle.gv_commandnodes.proofs.AtomActs.{book_atom_is}
+use Rattle.gv_commandnodes.proofs.generated.atom_node.book_atom_made.Goals as goal
+
+pub returns : goal.returns
+returns c = λ whole is. book_atom_is c.args.text.now c.args.nodes.now c.args.at c.token_of-word.result c.token_of-name.result c.place_of-a.result c.place_of-b.result c.requires.made c.token_of-word.ensures c.token_of-name.ensures c.place_of-a.ensures c.place_of-b.ensures whole is

@@ -1,0 +1,5 @@
+use Rattle.gv_commandnodes.proofs.AtomActs.{token_atom_is}
+use Rattle.gv_commandnodes.proofs.generated.atom_node.token_atom_made.Goals as goal
+
+pub returns : goal.returns
+returns c = λ whole is. token_atom_is c.args.text.now c.args.nodes.now c.args.at c.token_of-word.result c.place_of-a.result c.token_of-name.result c.place_of-terms.result c.requires.made c.token_of-word.ensures c.place_of-a.ensures c.token_of-name.ensures c.place_of-terms.ensures whole is

@@ -1,0 +1,5 @@
+use Rattle.gv_commandnodes.proofs.CommandActs.{have_is}
+use Rattle.gv_commandnodes.proofs.generated.command_node.have_made.Goals as goal
+
+pub returns : goal.returns
+returns c = λ whole is. have_is c.args.text.now c.args.nodes.now c.args.at c.token_of-word.result c.place_of-term.result c.place_of-proof.result c.requires.made c.token_of-word.ensures c.place_of-term.ensures c.place_of-proof.ensures whole is

@@ -1,0 +1,5 @@
+use Rattle.gv_commandnodes.proofs.CommandActs.{yield_is}
+use Rattle.gv_commandnodes.proofs.generated.command_node.yield_made.Goals as goal
+
+pub returns : goal.returns
+returns c = λ whole is. yield_is c.args.text.now c.args.nodes.now c.args.at c.token_of-word.result c.place_of-a.result c.place_of-b.result c.place_of-slice.result c.place_of-low.result c.place_of-high.result c.requires.made c.token_of-word.ensures c.place_of-a.ensures c.place_of-b.ensures c.place_of-slice.ensures c.place_of-low.ensures c.place_of-high.ensures whole is

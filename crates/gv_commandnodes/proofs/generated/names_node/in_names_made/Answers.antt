@@ -1,0 +1,5 @@
+use Rattle.gv_commandnodes.proofs.NamesActs.{in_names_is}
+use Rattle.gv_commandnodes.proofs.generated.names_node.in_names_made.Goals as goal
+
+pub returns : goal.returns
+returns c = λ whole is. in_names_is c.args.text.now c.args.nodes.now c.args.at c.place_of-names.result c.requires.made c.place_of-names.ensures whole is

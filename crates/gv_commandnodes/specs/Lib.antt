@@ -1,0 +1,13 @@
+pub mod Names
+pub mod Inst
+pub mod Atom
+pub mod Atoms
+pub mod Filling
+pub mod Command
+pub mod Commands
+pub mod Ending
+pub mod Block
+pub mod MaybeBlock
+pub mod Blocks
+pub mod Arm
+pub mod Arms
