@@ -35,7 +35,7 @@ use Rattle.gv_gouses.specs.Uses.{uses_of}
 use Rattle.gv_gouses.specs.Parts.{operands_findings}
 use Rattle.gv_gouses.proofs.UseLemmas.{uses_both, uses_none, uses_before, uses_behind}
 
-both_same : (fs gs hs is : List Finding) → uses_of fs ≡ uses_of hs → uses_of gs ≡ uses_of is → uses_of (fs ++ gs) ≡ uses_of (hs ++ is)
+pub both_same : (fs gs hs is : List Finding) → uses_of fs ≡ uses_of hs → uses_of gs ≡ uses_of is → uses_of (fs ++ gs) ≡ uses_of (hs ++ is)
 both_same fs gs hs is e f = uses_both fs gs ∙ ap (λ us. us ++ uses_of gs) e ∙ ap (λ us. uses_of hs ++ us) f ∙ sym (uses_both hs is)
 
 -- ---- operands in places

@@ -8,7 +8,10 @@ mod calls;
 mod lists;
 mod noted;
 mod operands;
+mod sides;
+mod simple;
 
 pub use calls::{note_call, note_right};
 pub use noted::Use;
 pub use operands::{note_found, note_name, note_operand};
+pub use simple::note_simple;

@@ -17,7 +17,8 @@ use gv_gosyntax::{Lexeme, Node};
 use gv_gotypes::{Entity, Found};
 use gv_gowalk::Names;
 
-fn note(uses: &mut Vec<Use>, one: Use) -> Result<(), NoMemory>
+/// Adds a use.
+pub(crate) fn note(uses: &mut Vec<Use>, one: Use) -> Result<(), NoMemory>
     ensures { OnOk result (uses.new.items ≡ uses.old.items ++ one ∷ []) }
 {
     uses.push(one)?;
