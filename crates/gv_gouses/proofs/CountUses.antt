@@ -31,9 +31,9 @@ word_faults at w = tt
 
 counted_found : (env : Env) (t : Lexeme) (f : Option Found) (b : Bool)
     → uses_of ((if b then record { wants = Unknown; findings = (found_outcome env t (if b then None else f)).findings } else
-        (if b then record { wants = AnyTyped; findings = [] } else entity_target t.start (if b then None else f))).findings
-      ++ word_wanted t.start (if b then record { wants = Unknown; findings = (found_outcome env t (if b then None else f)).findings } else
-        (if b then record { wants = AnyTyped; findings = [] } else entity_target t.start (if b then None else f))).wants)
+    (if b then record { wants = AnyTyped; findings = [] } else entity_target t.start (if b then None else f))).findings
+    ++ word_wanted t.start (if b then record { wants = Unknown; findings = (found_outcome env t (if b then None else f)).findings } else
+    (if b then record { wants = AnyTyped; findings = [] } else entity_target t.start (if b then None else f))).wants)
     ≡ uses_of (if b then record { wants = AnyTyped; findings = [] } else entity_target t.start (if b then None else f)).findings
 counted_found env t f true = refl
 counted_found env t f false = uses_before (entity_target t.start f).findings (word_wanted t.start (entity_target t.start f).wants) (word_faults t.start (entity_target t.start f).wants)

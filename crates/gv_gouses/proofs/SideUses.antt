@@ -39,7 +39,7 @@ name_target_uses env t f e = by (is_blank (name_in env.source t)) e
   where
     by : (b : Bool) → f ≡ (if b then None else found_among env.entries (named_in env.declared.names (name_in env.source t)) (name_in env.source t))
         → uses_of (if b then record { wants = AnyTyped; findings = [] } else
-            entity_target t.start (if b then None else found_among env.entries (named_in env.declared.names (name_in env.source t)) (name_in env.source t))).findings
+        entity_target t.start (if b then None else found_among env.entries (named_in env.declared.names (name_in env.source t)) (name_in env.source t))).findings
         ≡ uses_of (entity_target t.start f).findings
     by true h = sym (ap (λ (x : Option Found). uses_of (entity_target t.start x).findings) h)
     by false h = sym (ap (λ (x : Option Found). uses_of (entity_target t.start x).findings) h)
