@@ -53,19 +53,55 @@ WALK_CAUSES = [
     ("BadChoice", "choices that the picks don't allow"),
 ]
 
+CAUSES = [
+    ("Scope", "a variable that the path lacks, or a term without the sort of its place"),
+    ("NameTaken", "a new name that is in use"),
+    ("Count", "another number of names, terms or blocks than there must be"),
+    ("NoAtom", "an atom that isn't there; of a script of the small form: an operation's sum in the package isn't the one in the specification, and the place is the word `step` of its block"),
+    ("NotKnown", "a formula that isn't known"),
+    ("Mismatch", "a formula, a term or an atom of another form than there must be"),
+    ("Mode", "what the own or the shared mode, or the block, doesn't allow"),
+    ("Bracket", "a bracket that isn't closed, or isn't opened"),
+    ("NotDurable", "a predicate that a crash doesn't keep"),
+    ("NotPersistent", "an atom or a predicate that can't be copied"),
+    ("HasToken", "a token is left"),
+    ("CrashBlock", "the crash condition isn't left"),
+    ("PathEnd", "a path that hasn't ended, or has ended already"),
+    ("NoStep", "no step since the block's start"),
+    ("WrongPoint", "another point than there must be"),
+    ("NotAPlus", "a listed term that is no sum or difference of whole numbers"),
+    ("Negative", "a negative factor of a row that may be above 0"),
+    ("Wide", "a number outside 128 bits"),
+    ("NotContradiction", "the sums don't show a contradiction"),
+    ("BadAxiom", "no such instance of an axiom"),
+    ("Excluded", "a number that is excepted"),
+    ("Missing", "a block that is missing"),
+    ("Hole", "a hole"),
+]
+
 STATUSES = [
     (0, "accepted", "`accepted for runs without crash`"),
+    (0, "accepted in runs with crashes too", "`accepted`"),
     (0, "explained", "`explained`"),
     (0, "a schedule was run to its end", "the history, an entry a line, and `end`"),
+    (0, "judged with an explanation", "its moves, a line each"),
+    (0, "points of procedures", "`proc NAME`, and behind it a line a point"),
+    (0, "texts were made", "`gen K accepted PKGBYTES SPECBYTES SCRIPTBYTES COMMANDS`"),
     (1, "unjustified", "`unjustified LINE:COL CAUSE`, the place in the script"),
     (1, "not explained", "`not explained at K CAUSE`, the number of a move from 1"),
+    (1, "judged to have no explanation", "`no explanation`"),
     (2, "the words are no command", "the usage line"),
     (3, "a file can't be read", "`cannot read NAME`"),
     (4, "a text is refused", "`NAME:LINE:COL CODE`"),
     (5, "out of memory", "`out of memory`"),
     (6, "the report can't be written", "a prefix of it"),
+    (7, "nodes of a search are spent", "`spent MOST`"),
     (8, "an event of a schedule was undefined", "the history so far, and `undefined K REASON`, the number of the event from 1"),
 ]
+
+# what a command that isn't there yet will print
+NOT_MADE = ("`accepted`", "`proc NAME`, and behind it a line a point", "`gen K accepted PKGBYTES SPECBYTES SCRIPTBYTES COMMANDS`",
+            "the history so far, and `undefined K REASON`, the number of the event from 1")
 
 # what the first words of a case say of its text
 FORMS = {
@@ -145,6 +181,21 @@ def walks():
     return found
 
 
+def unjustified():
+    """For each cause of a script the first case of the program's tables that is answered with it: its table and name."""
+    found = {}
+    for table in sorted(os.listdir(f"{TOP}/cases")):
+        name = ""
+        with open(f"{TOP}/cases/{table}", encoding="utf-8", errors="replace") as it:
+            for line in it:
+                if line.startswith("== "):
+                    name = line[3:].strip()
+                told = re.fullmatch(r"unjustified \d+:\d+ (\w+)", line.strip())
+                if told and name:
+                    found.setdefault(told[1], f"`{table}`, {name}")
+    return found
+
+
 def shown(text):
     """A text in a table's cell; tables write its newlines as `\\n`."""
     text = text.replace("|", "\\|")
@@ -194,19 +245,23 @@ def page():
         _, history, moves, number = cases[0] if cases else (0, "", "", "")
         lines.append(f"| `{cause}` | {meaning} | {shown(history)} | {shown(moves)} | {number} |" if cases
                      else f"| `{cause}` | {meaning} | not made yet | | |")
+    examples = unjustified()
     lines += [
         "",
         "## Why a script is unjustified",
         "",
-        "| Cause | Where |",
-        "|---|---|",
-        "| `NoAtom` | an operation's sum in the package isn't the one in the specification; the place is the word `step` of its block |",
+        "The first premise of a command that fails. Each cause's line, as text and in JSON, is a case of `crates/report_cases`; an example is the first call of the",
+        "program in `cases/` that is answered so.",
+        "",
+        "| Number | Cause | Where | Example |",
+        "|---|---|---|---|",
+        *(f"| {number} | `{cause}` | {where} | {examples.get(cause, 'not made yet')} |" for number, (cause, where) in enumerate(CAUSES, 1)),
         "",
         "## Statuses",
         "",
-        "| Status | Means | Printed |",
-        "|---|---|---|",
-        *(f"| {status} | {means} | {printed} |" for status, means, printed in STATUSES),
+        "| Status | Means | Printed | |",
+        "|---|---|---|---|",
+        *(f"| {status} | {means} | {printed} | {'not made yet' if printed in NOT_MADE else ''} |" for status, means, printed in STATUSES),
     ]
     return "\n".join(lines) + "\n"
 

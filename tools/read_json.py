@@ -2,7 +2,8 @@
 """Reads answers in JSON back by Python's own reader, which the gate doesn't: the gate compares bytes.
 
   read_json.py            reads the answer of each case of the table of lines of json_cases: it must have the digests, the lines and the
-                          status that the case gives, in this order, and must be what Python writes of them without a space
+                          status that the case gives, in this order, and must be what Python writes of them without a space. And each
+                          report in JSON of the table of report_cases, which must say what the same report's text says
   read_json.py PROGRAM    besides runs each example twice, as text and in JSON, which must agree with each other and with the files' digests
 
 Prints what differs and how many were read, and ends with 1 where one differs.
@@ -16,6 +17,7 @@ import sys
 
 TOP = os.path.dirname(os.path.dirname(os.path.abspath(__file__)))
 TABLE = f"{TOP}/crates/json_cases/data/lines.txt"
+REPORTS = f"{TOP}/crates/report_cases/data/reports.txt"
 KEYS = ["digests", "lines", "status"]
 ESCAPES = {b"n": b"\n", b"r": b"\r", b"t": b"\t", b"\\": b"\\"}
 
@@ -63,14 +65,43 @@ def differs(line, answer):
     return None
 
 
-def cases():
-    """What differs of each case of the table, by its name."""
-    with open(TABLE, encoding="utf-8", newline="\n") as table:
+def rows_of(path):
+    """The cases of a table: the form that stands above, the name, what is given, and what is wanted."""
+    form = ""
+    with open(path, encoding="utf-8", newline="\n") as table:
         for row in table.read().split("\n"):
+            if row.startswith("form "):
+                form = row[5:]
             name, colon, rest = row.partition(": ")
             said, arrow, want = rest.partition(" => ")
             if colon and arrow and not row.startswith("//"):
-                yield name, differs(want, given(said))
+                yield form, name, said, want
+
+
+def cases():
+    """What differs of each case of the table, by its name."""
+    for _, name, said, want in rows_of(TABLE):
+        yield name, differs(want, given(said))
+
+
+def reports():
+    """What differs between a report as text and in JSON, by its name."""
+    written = {"text": {}, "json": {}}
+    for form, name, _, want in rows_of(REPORTS):
+        status, _, text = want.partition(" ")
+        written[form][name] = int(status), unescaped(text).decode()
+    for name, (status, text) in written["text"].items():
+        code, line = written["json"].get(name, (None, ""))
+        if code != status:
+            yield name, f"its status is {code}, and as text {status}"
+        elif status in (2, 5):
+            yield name, None if line == text else "it isn't its text"
+        elif not line.endswith("\n"):
+            yield name, "no newline at the end"
+        else:
+            read = json.loads(line)
+            same = "".join(item + "\n" for item in read["lines"]) == text
+            yield name, differs(line[:-1], {"digests": ["ab", "cd"], "lines": read["lines"], "status": status}) if same else "its lines are not those of the text"
 
 
 def examples(program):
@@ -98,7 +129,7 @@ def examples(program):
 
 
 def main(words):
-    found = list(cases())
+    found = [*cases(), *reports()]
     for program in words:
         found += examples(os.path.abspath(program))
     wrong = [(name, why) for name, why in found if why]

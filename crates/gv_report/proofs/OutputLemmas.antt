@@ -16,7 +16,9 @@ without_newline (line ∷ []) text rest n h is long front =
     ap (λ l. l ∷ []) (front ∙ ap (λ k. take k text) cut ∙ ap (λ (v : List ℕ). take (length line) v) is ∙ take-append_seam line end)
 without_newline (line ∷ next ∷ lines) text rest n h is long front = absurd (let l : length (line ∷ next ∷ lines) ≡ 1 = h in omega (arith, l))
 
-pub one_line_else : (r : Report) → ((ran : held_ran.Ran) → r ≡ report.Ran ran → ⊥) → ((lines : List (List ℕ)) → r ≡ report.Moves lines → ⊥) → length (lines_of r) ≡ 1
-one_line_else (report.Ran ran) h k = absurd (h ran refl)
-one_line_else (report.Moves lines) h k = absurd (k lines refl)
-one_line_else _ h k = refl
+pub one_line_else : (r : Report) → ((ran : held_ran.Ran) → r ≡ report.Ran ran → ⊥) → ((lines : List (List ℕ)) → r ≡ report.Moves lines → ⊥)
+    → ((lines : List (List ℕ)) → r ≡ report.Points lines → ⊥) → length (lines_of r) ≡ 1
+one_line_else (report.Ran ran) h k m = absurd (h ran refl)
+one_line_else (report.Moves lines) h k m = absurd (k lines refl)
+one_line_else (report.Points lines) h k m = absurd (m lines refl)
+one_line_else _ h k m = refl

@@ -1,8 +1,6 @@
 -- What a sink heard of a report.
 use Rattle.std.specs.Prelude.{◌≡◌, ℕ, List, ◌++◌, Option}
 use Rattle.gv_base.specs.Outside.{Appended, Rose}
-use Rattle.gv_report.specs.declared.report.Report.{Report}
-use Rattle.gv_report.specs.Report.{status_of, text_of}
 
 -- What a sink holds, where it tells that, and its count of faults, before and after.
 pub record Heard : Type 0 where
@@ -29,8 +27,3 @@ NoneFailed h = h.faults_now ≡ h.faults_before
 
 abbrev pub OneFailed : Heard → Type 0
 OneFailed h = Rose h.faults_before h.faults_now
-
--- the status, and what was written: the report's, or 6 and a prefix of its text where a put failed
-pub data Tells (report : Report) (h : Heard) : ℕ → Type 0 where
-  whole : IsWritten h (text_of report) → NoneFailed h → Tells report h (status_of report)
-  cut : OneFailed h → IsPrefixWritten h (text_of report) → Tells report h 6

@@ -68,6 +68,7 @@ pub fn report_lines(alloc: Global, report: &Report) -> Result<Vec<Name>, NoMemor
     match report {
         Report::Ran(ran) => run_lines(alloc, ran),
         Report::Moves { lines } => copies(alloc, lines.as_slice()),
+        Report::Points { lines } => copies(alloc, lines.as_slice()),
         _ => only_line(alloc, report),
     }
 }

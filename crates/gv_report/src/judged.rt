@@ -4,19 +4,11 @@ ghost use Rattle.std.specs.Prelude.{◌≡◌, IfOk};
 ghost use Rattle.gv_report.specs.Report as spec;
 ghost use Rattle.gv_report.specs.declared.report.Report.{Report as ReportForm};
 
-use crate::ran::lines_text;
-use gv_base::{List, Name, NoMemory};
+use gv_base::NoMemory;
 use std::alloc::Global;
 
 /// The line where a history has no explanation.
 pub const NO_EXPLANATION: &[u8] = b"no explanation\n";
-
-/// The lines of moves, each with a newline behind it.
-pub fn moves_text(alloc: Global, lines: &List<Name>) -> Result<Vec<u8>, NoMemory>
-    ensures { IfOk result (λ v. v.items ≡ spec.text_of (ReportForm.Moves lines.now)) }
-{
-    lines_text(alloc, lines.as_slice())
-}
 
 /// The line where so many nodes are spent.
 pub fn spent_text(alloc: Global, most: u64) -> Result<Vec<u8>, NoMemory>

@@ -4,10 +4,11 @@ ghost use Rattle.std.specs.Prelude.{◌≡◌, IfOk};
 ghost use Rattle.gv_report.specs.Report as spec;
 ghost use Rattle.gv_report.specs.declared.report.Report.{Report as ReportForm};
 
-use crate::cause::Cause;
-use crate::judged::{NO_EXPLANATION, moves_text, spent_text};
+use crate::judged::{NO_EXPLANATION, spent_text};
+use crate::ran::lines_text;
 use crate::report::Report;
 use gv_base::{Code, Name, NoMemory, Place};
+use gv_certs::Cause;
 use gv_history::WalkCause;
 use std::alloc::Global;
 
@@ -59,6 +60,7 @@ pub fn text(alloc: Global, report: &Report) -> Result<Vec<u8>, NoMemory>
     ensures { IfOk result (λ v. v.items ≡ spec.text_of report.now) }
 {
     match report {
+        Report::Accepted => Ok(Vec::from_slice(alloc, b"accepted\n")?),
         Report::AcceptedWithoutCrash => {
             Ok(Vec::from_slice(alloc, b"accepted for runs without crash\n")?)
         }
@@ -70,8 +72,10 @@ pub fn text(alloc: Global, report: &Report) -> Result<Vec<u8>, NoMemory>
         Report::Refused { name, place, code } => refused(alloc, name, *place, *code),
         Report::OutOfMemory => Ok(Vec::from_slice(alloc, OUT_OF_MEMORY)?),
         Report::Ran(ran) => ran.text(alloc),
-        Report::Moves { lines } => moves_text(alloc, lines),
+        Report::Moves { lines } => lines_text(alloc, lines.as_slice()),
+        Report::Points { lines } => lines_text(alloc, lines.as_slice()),
         Report::NoExplanation => Ok(Vec::from_slice(alloc, NO_EXPLANATION)?),
         Report::Spent { most } => spent_text(alloc, *most),
+        Report::Made(made) => made.text(alloc),
     }
 }

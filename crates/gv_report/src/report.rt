@@ -3,9 +3,10 @@
 ghost use Rattle.std.specs.Prelude.{◌≡◌};
 ghost use Rattle.gv_report.specs.Report.{status_of};
 
-use crate::cause::Cause;
+use crate::made::Made;
 use crate::ran::Ran;
 use gv_base::{Code, List, Name, Place};
+use gv_certs::Cause;
 use gv_history::WalkCause;
 
 /// The outcome of a command line and its files. This project's own.
@@ -30,6 +31,8 @@ pub enum Report {
         place: Place,
         cause: Cause,
     },
+    /// The package refines the specification in every run, with crashes and failing disks in it.
+    Accepted,
     /// The package refines the specification in every run without a crash.
     AcceptedWithoutCrash,
     /// The moves explain the history.
@@ -51,6 +54,12 @@ pub enum Report {
     Spent {
         most: u64,
     },
+    /// The points of a package's procedures, a line each.
+    Points {
+        lines: List<Name>,
+    },
+    /// Texts were made, which are accepted.
+    Made(Made),
 }
 
 impl Report {
@@ -59,7 +68,8 @@ impl Report {
         ensures { result ≡ status_of self.now }
     {
         match self {
-            Report::AcceptedWithoutCrash | Report::Explained | Report::Moves { .. } => 0,
+            Report::Accepted | Report::AcceptedWithoutCrash | Report::Explained => 0,
+            Report::Moves { .. } | Report::Points { .. } | Report::Made(_) => 0,
             Report::Unjustified { .. } | Report::NotExplained { .. } => 1,
             Report::NoExplanation => 1,
             Report::Usage => 2,

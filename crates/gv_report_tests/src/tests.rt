@@ -2,7 +2,7 @@
 
 use gv_base::{Code, List, MemSink, Name, Place, Reason, SureSink};
 use gv_history::WalkCause;
-use gv_report::{Answer, Cause, Ran, Report, text};
+use gv_report::{Cause, Format, Output, Ran, Report, text};
 use std::alloc::Global;
 use std::process::Abort;
 use std::test::Fail;
@@ -23,7 +23,7 @@ fn tells<R: Abort>(
     assert_eq!(rt; report.status(), status);
     assert_eq!(rt; text(alloc, &report)?.as_slice(), line);
     let mut sink = MemSink::new(alloc, 1000, List::new(alloc))?;
-    let answer = Answer::new(alloc, report);
+    let answer = Output::new(alloc, report, Format::Text);
     assert_eq!(rt; answer.tell(&mut sink), status);
     assert_eq!(rt; sink.written().as_slice(), line);
     assert_eq!(rt; answer.tell(&mut SureSink::new()), status);
@@ -144,7 +144,7 @@ fn tells_six_where_a_put_fails(rt: HostRuntime) -> Result<(), Fail> {
     for (room, fails, written) in [(8, 2, "out of m"), (1000, 1, "")] {
         let fails = List::from_vec(Vec::from_slice(alloc, &[fails])?);
         let mut sink = MemSink::new(alloc, room, fails)?;
-        let answer = Answer::new(alloc, Report::OutOfMemory);
+        let answer = Output::new(alloc, Report::OutOfMemory, Format::Text);
         assert_eq!(rt; answer.tell(&mut sink), 6);
         assert_eq!(rt; sink.written().as_slice(), written.as_bytes());
     }
@@ -157,7 +157,7 @@ fn puts_pieces_of_65536_bytes(rt: HostRuntime) -> Result<(), Fail> {
     let alloc = rt.alloc();
     let bytes = vec![in alloc; b'n'; 131_061]?;
     let name = Name::from_vec(alloc, bytes)?;
-    let answer = Answer::new(alloc, Report::CannotRead { name });
+    let answer = Output::new(alloc, Report::CannotRead { name }, Format::Text);
     for (fails, status, length) in [(2, 6, 65_536), (3, 6, 131_072), (4, 0, 0)] {
         let fails = List::from_vec(Vec::from_slice(alloc, &[fails])?);
         let mut sink = MemSink::new(alloc, 200_000, fails)?;

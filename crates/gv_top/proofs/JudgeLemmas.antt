@@ -49,6 +49,20 @@ begins_otherwise s (move.Other (entry.Answer number reply) ∷ ms) rest e = let 
 begins_otherwise s (move.Other entry.Crash ∷ ms) rest e = let h : 99 ≡ 97 = nth 0 _ (text_of report.AcceptedWithoutCrash ++ rest) e in omega (arith, h)
 begins_otherwise s (move.Other entry.Boot ∷ ms) rest e = let h : 98 ≡ 97 = nth 0 _ (text_of report.AcceptedWithoutCrash ++ rest) e in omega (arith, h)
 
+-- nor as an object of JSON does
+never_braced : (s : Spec) (ms : List Move) (text : List ℕ) → get_or text 0 0 ≡ 123 → joined (move_lines s ms) ≡ text → ⊥
+never_braced s [] text b e = let h : 0 ≡ 123 = nth 0 _ text e ∙ b in omega (arith, h)
+never_braced s (move.Act number choices ∷ ms) text b e = let h : 97 ≡ 123 = nth 0 _ text e ∙ b in omega (arith, h)
+never_braced s (move.Boot choices ∷ ms) text b e = let h : 98 ≡ 123 = nth 0 _ text e ∙ b in omega (arith, h)
+never_braced s (move.Other (entry.Call number op args) ∷ ms) text b e = let h : 99 ≡ 123 = nth 0 _ text e ∙ b in omega (arith, h)
+never_braced s (move.Other (entry.Answer number reply) ∷ ms) text b e = let h : 97 ≡ 123 = nth 0 _ text e ∙ b in omega (arith, h)
+never_braced s (move.Other entry.Crash ∷ ms) text b e = let h : 99 ≡ 123 = nth 0 _ text e ∙ b in omega (arith, h)
+never_braced s (move.Other entry.Boot ∷ ms) text b e = let h : 98 ≡ 123 = nth 0 _ text e ∙ b in omega (arith, h)
+
+-- a text that no moves have
+abbrev AreNoMoves : List ℕ → Type 0
+AreNoMoves text = (s : Spec) (ms : List Move) → joined (move_lines s ms) ≡ text → ⊥
+
 -- ---- where a judgement came of it
 
 -- the two values that were read, and what is told of them
@@ -74,9 +88,9 @@ judgement_is source s h most before after j o e judges =
       tells = subst (λ (r : Result Judgement Halt). Finishes (Tells spec history.items most) r) e last.0;
     }))
 
-pub moves_text : (words : List (List ℕ)) (source : Source) (lines : List (List ℕ)) (f : Format) (rest : List ℕ) → Gives source words (report.Moves lines) f
-    → text_of (report.Moves lines) ≡ text_of report.AcceptedWithoutCrash ++ rest → ⊥
-moves_text words source lines f rest given text = by_words (report.Moves lines) f refl given
+never_text : (words : List (List ℕ)) (source : Source) (lines : List (List ℕ)) (f : Format) (wanted : List ℕ) → AreNoMoves wanted → Gives source words (report.Moves lines) f
+    → text_of (report.Moves lines) ≡ wanted → ⊥
+never_text words source lines f wanted none given text = by_words (report.Moves lines) f refl given
   where
     by_command : (command : Command) (before after : Format) (r : Report) → r ≡ report.Moves lines → Comes source command before r after → ⊥
     by_command (check p s t) before after r e (o, checks, is) = check_never_finds o lines (sym e ∙ is)
@@ -84,11 +98,19 @@ moves_text words source lines f rest given text = by_words (report.Moves lines) 
     by_command (replay p s c) before after r e (o, replays, is) = replay_never_finds o lines (sym e ∙ is)
     by_command (judge s h m) before after r e (o, judges, is) =
         let came = judgement_is source s h m before after (Explained lines) o (found_of o lines (sym e ∙ is)) judges in
-        begins_otherwise came.spec came.tells.moves rest (ap joined (sym came.tells.lines_are) ∙ text)
+        none came.spec came.tells.moves (ap joined (sym came.tells.lines_are) ∙ text)
 
     by_words : (r : Report) (f : Format) → r ≡ report.Moves lines → Gives source words r f → ⊥
     by_words r f e (usage h) = cc
     by_words r f e (done command asks comes) = by_command command (format_for words) f r e comes
+
+pub moves_text : (words : List (List ℕ)) (source : Source) (lines : List (List ℕ)) (f : Format) (rest : List ℕ) → Gives source words (report.Moves lines) f
+    → text_of (report.Moves lines) ≡ text_of report.AcceptedWithoutCrash ++ rest → ⊥
+moves_text words source lines f rest given text = never_text words source lines f (text_of report.AcceptedWithoutCrash ++ rest) (λ s ms. begins_otherwise s ms rest) given text
+
+pub moves_unbraced : (words : List (List ℕ)) (source : Source) (lines : List (List ℕ)) (f : Format) (wanted : List ℕ) → get_or wanted 0 0 ≡ 123
+    → Gives source words (report.Moves lines) f → text_of (report.Moves lines) ≡ wanted → ⊥
+moves_unbraced words source lines f wanted braced given text = never_text words source lines f wanted (λ s ms. never_braced s ms wanted braced) given text
 
 -- ---- the promise
 

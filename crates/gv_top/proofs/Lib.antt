@@ -1,3 +1,4 @@
+pub mod AcceptedLine
 pub mod AlikeLines
 pub mod AlikeMeaning
 pub mod AlikeNodes

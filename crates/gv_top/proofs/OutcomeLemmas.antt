@@ -24,7 +24,7 @@ use Rattle.gv_top.specs.Files.{Asked, Source, Form, Reads, HaltsAt, Course, Then
 use Rattle.gv_top.specs.Outcome.{reported}
 use Rattle.gv_top.specs.Run.{IsBlamedIn}
 
--- ---- the reports of a command's own: neither of a halt, nor of words that are no command
+-- ---- the reports of a command's own: neither of a halt, nor of words that are no command, nor of a command that isn't there yet
 
 abbrev pub IsOwn : Report → Type 0
 IsOwn report.AcceptedWithoutCrash = Unit {0}
@@ -39,6 +39,9 @@ IsOwn report.Usage = ⊥
 IsOwn report.OutOfMemory = ⊥
 IsOwn (report.CannotRead name) = ⊥
 IsOwn (report.Refused name place code) = ⊥
+IsOwn report.Accepted = ⊥
+IsOwn (report.Points lines) = ⊥
+IsOwn (report.Made made) = ⊥
 
 own_blamed : (a : Asked) (r : Report) → IsOwn r → NoneFailed a → IsBlamedIn a r
 own_blamed a report.AcceptedWithoutCrash o h = h
@@ -53,6 +56,9 @@ own_blamed a report.Usage o h = absurd o
 own_blamed a report.OutOfMemory o h = absurd o
 own_blamed a (report.CannotRead name) o h = absurd o
 own_blamed a (report.Refused name place code) o h = absurd o
+own_blamed a report.Accepted o h = absurd o
+own_blamed a (report.Points lines) o h = absurd o
+own_blamed a (report.Made made) o h = absurd o
 
 blamed_own : (a : Asked) (r : Report) → IsOwn r → IsBlamedIn a r → NoneFailed a
 blamed_own a report.AcceptedWithoutCrash o h = h
@@ -67,6 +73,33 @@ blamed_own a report.Usage o h = absurd o
 blamed_own a report.OutOfMemory o h = absurd o
 blamed_own a (report.CannotRead name) o h = absurd o
 blamed_own a (report.Refused name place code) o h = absurd o
+blamed_own a report.Accepted o h = absurd o
+blamed_own a (report.Points lines) o h = absurd o
+blamed_own a (report.Made made) o h = absurd o
+
+-- the reports that no command gives yet
+abbrev pub IsNotYet : Report → Type 0
+IsNotYet report.Accepted = Unit {0}
+IsNotYet (report.Points lines) = Unit {0}
+IsNotYet (report.Made made) = Unit {0}
+IsNotYet _ = ⊥
+
+not_yet_own : (r : Report) → IsOwn r → IsNotYet r → ⊥
+not_yet_own report.Accepted o h = o
+not_yet_own (report.Points lines) o h = o
+not_yet_own (report.Made made) o h = o
+not_yet_own report.AcceptedWithoutCrash o h = h
+not_yet_own (report.Unjustified place why) o h = h
+not_yet_own report.Explained o h = h
+not_yet_own (report.NotExplained at why) o h = h
+not_yet_own (report.Ran ran) o h = h
+not_yet_own (report.Moves lines) o h = h
+not_yet_own report.NoExplanation o h = h
+not_yet_own (report.Spent most) o h = h
+not_yet_own report.Usage o h = h
+not_yet_own report.OutOfMemory o h = h
+not_yet_own (report.CannotRead name) o h = h
+not_yet_own (report.Refused name place code) o h = h
 
 pub check_own : (v : Verdict) → IsOwn (check_report v)
 check_own (Unjustified place why) = tt
@@ -92,6 +125,12 @@ module _ {O : Type 0} (report_of : O → Report) (own : (o : O) → IsOwn (repor
   never_usage (Err NoMemory) e = cc
   never_usage (Err (CannotRead n)) e = cc
   never_usage (Err (Refused n q d)) e = cc
+
+  pub never_yet : (o : Result O Halt) (r : Report) → IsNotYet r → r ≡ reported report_of o → ⊥
+  never_yet (Ok x) r h e = not_yet_own (report_of x) (own x) (subst IsNotYet e h)
+  never_yet (Err NoMemory) r h e = subst IsNotYet e h
+  never_yet (Err (CannotRead n)) r h e = subst IsNotYet e h
+  never_yet (Err (Refused n q d)) r h e = subst IsNotYet e h
 
   pub refused_of : (name : List ℕ) (place : Place) (code : Code) (o : Result O Halt) → report.Refused name place code ≡ reported report_of o → o ≡ Err (Refused name place code)
   refused_of name place code (Ok x) e = absurd (subst IsOwn (sym e) (own x))

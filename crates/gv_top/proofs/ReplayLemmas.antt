@@ -167,22 +167,46 @@ plays_is source p s c before after ran o e replays =
           replayed = subst (λ (x : Result Ran Halt). Plays kept.small spec.spec c schedule.events x) e plays.0;
         })
 
-pub ran_text : (words : List (List ℕ)) (source : Source) (ran : Ran) (f : Format) (rest : List ℕ) → Gives source words (report.Ran ran) f
-    → text_of (report.Ran ran) ≡ text_of report.AcceptedWithoutCrash ++ rest → ⊥
-ran_text words source ran f rest given text = by_words (report.Ran ran) f refl given
+-- nor as an object of JSON does
+never_braced : (s : Spec) (history : List Entry) (undefined : Option (ℕ × Reason)) (text : List ℕ) → get_or text 0 0 ≡ 123
+    → joined (entry_lines s history ++ last_line undefined ∷ []) ≡ text → ⊥
+never_braced s [] None text b e = let h : 101 ≡ 123 = first_of _ text e ∙ b in omega (arith, h)
+never_braced s [] (Some found) text b e = let h : 117 ≡ 123 = first_of _ text e ∙ b in omega (arith, h)
+never_braced s (entry.Call number op args ∷ es) u text b e = let h : 99 ≡ 123 = first_of _ text e ∙ b in omega (arith, h)
+never_braced s (entry.Answer number reply ∷ es) u text b e = let h : 97 ≡ 123 = first_of _ text e ∙ b in omega (arith, h)
+never_braced s (entry.Crash ∷ es) u text b e = let h : 99 ≡ 123 = first_of _ text e ∙ b in omega (arith, h)
+never_braced s (entry.Boot ∷ es) u text b e = let h : 98 ≡ 123 = first_of _ text e ∙ b in omega (arith, h)
+
+-- a text that no run's is
+abbrev IsNoRun : List ℕ → Type 0
+IsNoRun text = (s : Spec) (history : List Entry) (undefined : Option (ℕ × Reason)) → joined (entry_lines s history ++ last_line undefined ∷ []) ≡ text → ⊥
+
+never_text : (words : List (List ℕ)) (source : Source) (ran : Ran) (f : Format) (wanted : List ℕ) → IsNoRun wanted → Gives source words (report.Ran ran) f
+    → text_of (report.Ran ran) ≡ wanted → ⊥
+never_text words source ran f wanted none given text = by_words (report.Ran ran) f refl given
   where
     by_command : (command : Command) (before after : Format) (r : Report) → r ≡ report.Ran ran → Comes source command before r after → ⊥
     by_command (check p s t) before after r e (o, checks, is) = check_never_ran o ran (sym e ∙ is)
     by_command (explain s h m) before after r e (o, explains, is) = explain_never_ran o ran (sym e ∙ is)
     by_command (replay p s c) before after r e (o, replays, is) =
         let came = plays_is source p s c before after ran o (ran_of o ran (sym e ∙ is)) replays in
-        begins_otherwise came.spec.spec came.replayed.history ran.undefined rest
+        none came.spec.spec came.replayed.history ran.undefined
         (ap (λ (ls : List (List ℕ)). joined (ls ++ last_line ran.undefined ∷ [])) (sym came.replayed.lines_are) ∙ text)
     by_command (judge s h m) before after r e (o, judges, is) = judge_never_ran o ran (sym e ∙ is)
 
     by_words : (r : Report) (f : Format) → r ≡ report.Ran ran → Gives source words r f → ⊥
     by_words r f e (usage h) = cc
     by_words r f e (done command asks comes) = by_command command (format_for words) f r e comes
+
+pub ran_text : (words : List (List ℕ)) (source : Source) (ran : Ran) (f : Format) (rest : List ℕ) → Gives source words (report.Ran ran) f
+    → text_of (report.Ran ran) ≡ text_of report.AcceptedWithoutCrash ++ rest → ⊥
+ran_text words source ran f rest given text =
+    never_text words source ran f (text_of report.AcceptedWithoutCrash ++ rest) (λ s history undefined. begins_otherwise s history undefined rest) given text
+
+pub ran_unbraced : (words : List (List ℕ)) (source : Source) (ran : Ran) (f : Format) (wanted : List ℕ) → get_or wanted 0 0 ≡ 123
+    → Gives source words (report.Ran ran) f → text_of (report.Ran ran) ≡ wanted → ⊥
+ran_unbraced words source ran f wanted braced given text =
+    never_text words source ran f wanted (λ s history undefined. never_braced s history undefined wanted braced) given text
 
 -- ---- the promise
 

@@ -13,7 +13,7 @@ use Rattle.gv_spec.specs.History.{IsExplanation, walked}
 use Rattle.gv_history.specs.declared.fault.WalkCause.{WalkCause}
 use Rattle.gv_history.specs.Fault.{cause_of}
 use Rattle.gv_report.specs.declared.report.Report.{Report}
-use Rattle.gv_report.specs.declared.report.Report.TheVariants.{Usage, OutOfMemory, CannotRead, Refused, Unjustified, AcceptedWithoutCrash, Explained, NotExplained, Ran, Moves, NoExplanation, Spent}
+use Rattle.gv_report.specs.declared.report.Report.TheVariants.{Usage, OutOfMemory, CannotRead, Refused, Unjustified, Accepted, AcceptedWithoutCrash, Explained, NotExplained, Ran, Moves, NoExplanation, Spent, Points, Made}
 use Rattle.gv_report.specs.Report.{status_of, IsAnswerTo}
 use Rattle.gv_base.specs.declared.reason.Reason.{Reason}
 use Rattle.gv_report.specs.Ran.{status_after}
@@ -216,6 +216,7 @@ ran_known None = inl (omega arith)
 ran_known (Some found) = inr (omega arith, omega arith)
 
 status_known : (r : Report) → IsAboutSix (status_of r)
+status_known Accepted = inl (omega arith)
 status_known AcceptedWithoutCrash = inl (omega arith)
 status_known (Unjustified place why) = inl (omega arith)
 status_known Explained = inl (omega arith)
@@ -228,6 +229,8 @@ status_known (Ran ran) = ran_known ran.undefined
 status_known (Moves lines) = inl (omega arith)
 status_known NoExplanation = inl (omega arith)
 status_known (Spent most) = inr (omega arith, omega arith)
+status_known (Points lines) = inl (omega arith)
+status_known (Made made) = inl (omega arith)
 
 never_six : (r : Report) → status_of r ≡ 6 → ⊥
 never_six r e =
@@ -241,6 +244,7 @@ ran_never_two None e = omega (arith, e)
 ran_never_two (Some found) e = omega (arith, e)
 
 is_usage : (r : Report) → status_of r ≡ 2 → r ≡ Usage
+is_usage Accepted e = absurd (omega (arith, e))
 is_usage AcceptedWithoutCrash e = absurd (omega (arith, e))
 is_usage (Unjustified place why) e = absurd (omega (arith, e))
 is_usage Explained e = absurd (omega (arith, e))
@@ -253,6 +257,8 @@ is_usage (Ran ran) e = absurd (ran_never_two ran.undefined e)
 is_usage (Moves lines) e = absurd (omega (arith, e))
 is_usage NoExplanation e = absurd (omega (arith, e))
 is_usage (Spent most) e = absurd (omega (arith, e))
+is_usage (Points lines) e = absurd (omega (arith, e))
+is_usage (Made made) e = absurd (omega (arith, e))
 
 module _ (words : List (List ℕ)) (a : Asked) (h : Heard) (z : Shown) (d : Deserves words a z.report z.format) where
   pub told : (status : ℕ) → Puts z h status → status ≢ 6 → (q : Report) × (status_of q ≡ status) × Answers words a h q

@@ -1,7 +1,7 @@
 -- The command `check PKG SPEC SCRIPT`.
 use Rattle.std.specs.Prelude.{◌≡◌, ℕ, List}
 use Rattle.gv_base.specs.declared.small.Small.{Small}
-use Rattle.gv_report.specs.declared.cause.Cause.TheVariants.{NoAtom}
+use Rattle.gv_certs.specs.declared.cause.Cause.TheVariants.{NoAtom}
 use Rattle.gv_report.specs.declared.report.Report.{Report}
 use Rattle.gv_report.specs.declared.report.Report.TheVariants as report
 use Rattle.gv_top.specs.declared.small_script.SmallScript.{SmallScript}

@@ -18,7 +18,7 @@ use Rattle.gv_history.specs.declared.fault.WalkCause.{WalkCause}
 use Rattle.gv_history.specs.Fault.{cause_of}
 use Rattle.gv_report.specs.declared.format.Format.{Format}
 use Rattle.gv_report.specs.declared.report.Report.TheVariants.{AcceptedWithoutCrash, NotExplained, Ran}
-use Rattle.gv_report.specs.Report.{status_of, text_of}
+use Rattle.gv_report.specs.Report.{status_of}
 use Rattle.gv_report.specs.Heard.{Heard, IsWritten}
 use Rattle.gv_report.specs.Output.{output_of}
 use Rattle.gv_top.specs.Files.{Reads, outside, noted_all}
@@ -44,9 +44,9 @@ pub data IsAccepted (words : List (List ℕ)) (heard : Heard) (status : ℕ) : T
   -- They ask for a check, and it ended with status 0.
   ended : (package_name spec_name script_name : List ℕ) → Asks words (check package_name spec_name script_name) → status ≡ 0
       → IsAccepted words heard status
-  -- Or it wrote the whole line of acceptance and nothing more, whatever the status is, and the name of no file that the words ask
-  -- for holds a newline, so that no other report begins with this line.
-  written : (old : List ℕ) → heard.before ≡ Some old → heard.now ≡ Some (old ++ text_of AcceptedWithoutCrash) →
+  -- Or it wrote the whole line of acceptance and nothing more, as text or in JSON, with whatever digests, and whatever the status is,
+  -- and the name of no file that the words ask for holds a newline, so that no other report begins with this line.
+  written : (old : List ℕ) (format : Format) → heard.before ≡ Some old → heard.now ≡ Some (old ++ output_of format AcceptedWithoutCrash) →
       ((command : _) → Asks words command → All IsOneLine (files_of command)) → IsAccepted words heard status
 
 -- THE PROMISE of `check`, of what the files held when `run` was called. Of a file of which nothing is told, as of real files, it says
