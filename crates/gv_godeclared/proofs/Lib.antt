@@ -1,0 +1,3 @@
+mod Bares
+mod Lists
+mod Whole
