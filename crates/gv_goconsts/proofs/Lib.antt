@@ -1,0 +1,3 @@
+mod Lists
+mod Orders
+mod Walks
